@@ -1,0 +1,89 @@
+-- Tables inside tables: an order, in which fewer relations in all means some relation less. Assumes nothing.
+use mathlib.Core.Path.{_≡_, refl, sym, ap, _∙_, subst}
+use mathlib.Core.Bool.{Bool, true, false}
+use mathlib.Core.Logic.{_⊎_, inl, inr, ⊎-elim}
+use mathlib.Core.List.{List, [], _∷_}
+use Prim.Native.Nat.{ℕ, zero, suc, _+_, _-_, _*_, _≤_, _<_}
+use native.Mathlib.Nat.{not-suc-le-zero, suc-inj, suc-ne-zero, le-antisymm, mul-le-mul-left, mul-suc}
+use native.Mathlib.Omega.{arith}
+use lib.Dec.{T, eqb, eqb→eq, eqb-refl}
+use lib.ListN.{length, getD, List·getD-eq-default}
+use lib.Seq.{ext-getD}
+use Rattle.rules.specs.Relations.{sets, _⊆_, size}
+use Rattle.rules.specs.Tables.{Table, Inside, cell, emptied, total}
+use Rattle.rules.proofs.Sets.{T-true, true-T, ⊆-refl, ⊆-trans, ⊆-antisym, ⊆-zero, size-mono, size-tight}
+
+-- cell (p, q) is one of the table's
+pub in-range : (v p q : ℕ) → p < v → q < v → v * p + q < v * v
+in-range v p q h k = omega (arith, mul-le-mul-left v h, mul-suc v p)
+
+pub inside-refl : (t : List ℕ) → Inside t t
+inside-refl t = record { cells = refl; each = λ k. ⊆-refl (getD t k 0) }
+
+pub inside-trans : {t u w : List ℕ} → Inside t u → Inside u w → Inside t w
+inside-trans a b = record { cells = a .cells ∙ b .cells; each = λ k. ⊆-trans (a .each k) (b .each k) }
+
+-- two tables inside each other are equal
+pub inside-antisym : {v : ℕ} {t u : List ℕ} → Table v t → Table v u → Inside t u → Inside u t → t ≡ u
+inside-antisym {v} {t} {u} a b c d =
+    ext-getD 0 t u (c .cells) (λ k h. ⊆-antisym (a .small k) (b .small k) (c .each k) (d .each k))
+
+total-le : (t u : List ℕ) → length t ≡ length u → ((k : ℕ) → getD t k 0 ⊆ getD u k 0) → total t ≤ total u
+unfolding total
+total-le [] [] e f = omega arith
+total-le [] (y ∷ ys) e f = omega arith
+total-le (x ∷ xs) [] e f = absurd (suc-ne-zero (length xs) e)
+total-le (x ∷ xs) (y ∷ ys) e f = omega (arith, size-mono (f 0), total-le xs ys (suc-inj e) (λ k. f (suc k)))
+
+pub total-mono : {t u : List ℕ} → Inside t u → total t ≤ total u
+total-mono {t} {u} h = total-le t u (h .cells) (h .each)
+
+total-back : (t u : List ℕ) → length t ≡ length u → ((k : ℕ) → getD t k 0 ⊆ getD u k 0) → total u ≤ total t → (k : ℕ) → getD u k 0 ⊆ getD t k 0
+unfolding total
+total-back [] [] e f l k = f k
+total-back [] (y ∷ ys) e f l k = absurd (suc-ne-zero (length ys) (sym e))
+total-back (x ∷ xs) [] e f l k = absurd (suc-ne-zero (length xs) e)
+total-back (x ∷ xs) (y ∷ ys) e f l zero = size-tight (f 0) (omega (arith, total-le xs ys (suc-inj e) (λ k. f (suc k))))
+total-back (x ∷ xs) (y ∷ ys) e f l (suc k) = total-back xs ys (suc-inj e) (λ k. f (suc k)) (omega (arith, size-mono (f 0))) k
+
+-- a table inside another with as many relations is the other
+pub total-tight : {v : ℕ} {t u : List ℕ} → Table v t → Table v u → Inside t u → total u ≤ total t → t ≡ u
+total-tight {v} {t} {u} a b h l =
+    inside-antisym a b h (record { cells = sym (h .cells); each = total-back t u (h .cells) (h .each) l })
+
+-- ---- empty cells
+
+pub emptied-out : (t : List ℕ) → T (emptied t) → (k : ℕ) × (k < length t) × (getD t k 0 ≡ 0)
+unfolding emptied
+emptied-out [] e = absurd e
+emptied-out (x ∷ xs) e = go (eqb x 0) refl e (emptied-out xs)
+  where
+    go : (b : Bool) → eqb x 0 ≡ b → T (elim b [ true ↦ true | false ↦ emptied xs ])
+        → (T (emptied xs) → (k : ℕ) × (k < length xs) × (getD xs k 0 ≡ 0))
+        → (k : ℕ) × (k < suc (length xs)) × (getD (x ∷ xs) k 0 ≡ 0)
+    go true d e f = (0, omega arith, eqb→eq x 0 (true-T d))
+    go false d e f =
+        let r : (k : ℕ) × (k < length xs) × (getD xs k 0 ≡ 0) = f e in let l : r .0 < length xs = r .1 in (suc (r .0), omega arith, r .2)
+
+pub emptied-in : (t : List ℕ) (k : ℕ) → k < length t → getD t k 0 ≡ 0 → T (emptied t)
+unfolding emptied
+emptied-in [] k h e = absurd (not-suc-le-zero h)
+emptied-in (x ∷ xs) zero h e = go (eqb x 0) (subst (λ (y : ℕ). T (eqb y 0)) (sym e) tt)
+  where
+    go : (b : Bool) → T b → T (elim b [ true ↦ true | false ↦ emptied xs ])
+    go true t = tt
+    go false t = absurd t
+emptied-in (x ∷ xs) (suc k) h e = go (eqb x 0) (emptied-in xs k (omega arith) e)
+  where
+    go : (b : Bool) → T (emptied xs) → T (elim b [ true ↦ true | false ↦ emptied xs ])
+    go true t = tt
+    go false t = t
+
+-- a table inside one with an empty cell has one
+pub emptied-inside : {v : ℕ} {t u : List ℕ} → Table v t → Inside t u → T (emptied u) → T (emptied t)
+emptied-inside {v} {t} {u} h i e = from (emptied-out u e)
+  where
+    from : (k : ℕ) × (k < length u) × (getD u k 0 ≡ 0) → T (emptied t)
+    from m =
+        emptied-in t (m .0) (subst (λ (n : ℕ). m .0 < n) (sym (i .cells)) (m .1))
+        (⊆-zero (h .small (m .0)) (subst (λ (x : ℕ). getD t (m .0) 0 ⊆ x) (m .2) (i .each (m .0))))

@@ -1,0 +1,236 @@
+-- The largest closed table: there is one, the closing computes it, and it has no empty cell or nothing at all. A rule is known here only by
+-- its bound, which grows with the table: such a strike loses no table in which the rule strikes nothing. Assumes nothing.
+use mathlib.Core.Path.{_≡_, refl, sym, ap, _∙_, subst}
+use mathlib.Core.Bool.{Bool, true, false, not}
+use mathlib.Core.Logic.{_⊎_, inl, inr, ⊎-elim}
+use mathlib.Core.List.{List, [], _∷_, List·Memᴰ, List·Memᴰ·head, List·Memᴰ·tail, List·Memᴰ·not-nil, List·Memᴰ·cases-cons}
+use Prim.Native.Nat.{ℕ, zero, suc, _+_, _-_, _*_, _/_, _%_, _≤_, _<_}
+use native.Mathlib.Nat.{not-suc-le-zero, mod-lt, div-add-mod, div-lt-iff-lt-mul}
+use native.Mathlib.Omega.{arith}
+use lib.Dec.{T, eqb, ltb, eqb→eq, eqb-refl, ltb→lt, nltb→le, T-not, not-T}
+use lib.ListN.{length, getD, set, replicate, length-set, length-replicate, getD-replicate, List·getD-eq-default}
+use lib.Seq.{getD-set-same, getD-set-other, set-out, ext-getD}
+use Rattle.rules.specs.Relations.{sets, meet, _⊆_, converse, compose}
+use Rattle.rules.specs.Descriptions.{Sheet}
+use Rattle.rules.specs.Tables.{Table, Inside, cell, emptied, total}
+use Rattle.rules.specs.Closed.{Closed, Largest}
+use Rattle.rules.specs.Closing.{Rule, Idle, rules, strike, sweep, sweeps, closing}
+use Rattle.rules.proofs.Sets.{true-T, T-true, T-decide, ⊆-refl, ⊆-trans, ⊆-zero, zero-⊆, meet-small, meet-left, meet-right, meet-largest}
+use Rattle.rules.proofs.Composition.{converse-zero, compose-zero-left, compose-zero-right}
+use Rattle.rules.proofs.Members.{All}
+use Rattle.rules.proofs.Inside.{in-range, inside-refl, inside-trans, inside-antisym, total-mono, total-tight, emptied-in, emptied-out}
+use Rattle.rules.proofs.Rules.{Grows, rules-grow, closed-idle, idle-closed}
+
+-- ---- one strike
+
+-- what holds of each cell, and of a at place k, holds of each cell after a is put there
+pub set-each : (P : ℕ → ℕ → Type 0) (t : List ℕ) (k a : ℕ) → ((j : ℕ) → P j (getD t j 0)) → P k a → (j : ℕ) → P j (getD (set t k a) j 0)
+set-each P t k a h e j = ⊎-elim here there (T-decide (eqb j k))
+  where
+    there : T (not (eqb j k)) → P j (getD (set t k a) j 0)
+    there n =
+        subst (P j) (sym (getD-set-other t k j a 0 (λ e. T-not (eqb j k) n (subst (λ (i : ℕ). T (eqb j i)) e (eqb-refl j))))) (h j)
+
+    here : T (eqb j k) → P j (getD (set t k a) j 0)
+    here d =
+        subst (λ (i : ℕ). P i (getD (set t k a) i 0)) (sym (eqb→eq j k d))
+        (⊎-elim (λ l. subst (P k) (sym (getD-set-same t k a 0 (ltb→lt k (length t) l))) e)
+        (λ n. subst (λ (u : List ℕ). P k (getD u k 0)) (sym (set-out t k a (nltb→le k (length t) n))) (h k)) (T-decide (ltb k (length t))))
+
+module _ (v : ℕ) (r : Rule) {t : List ℕ} where
+  strike-table : Table v t → Table v (strike v r t)
+  unfolding strike
+  strike-table h =
+      let k = v * r .row + r .column in
+      let c = meet (getD t k 0) (r .bound t) in
+      record {
+        cells = length-set t k c ∙ h .cells;
+        small = set-each (λ j x. x < sets) t k c (h .small) (meet-small (getD t k 0) (r .bound t));
+      }
+
+  strike-inside : Inside (strike v r t) t
+  unfolding strike
+  strike-inside =
+      let k = v * r .row + r .column in
+      let c = meet (getD t k 0) (r .bound t) in
+      record {
+        cells = length-set t k c;
+        each = set-each (λ j x. x ⊆ getD t j 0) t k c (λ j. ⊆-refl (getD t j 0)) (meet-left (getD t k 0) (r .bound t));
+      }
+
+  -- a strike by a bound that grows loses no table in which the rule strikes nothing
+  strike-keeps : Grows (r .bound) → {w : List ℕ} → Inside w t → Idle v w r → Inside w (strike v r t)
+  unfolding strike
+  strike-keeps g {w} i d =
+      let k = v * r .row + r .column in
+      let c = meet (getD t k 0) (r .bound t) in
+      record {
+        cells = i .cells ∙ sym (length-set t k c);
+        each = set-each (λ j x. getD w j 0 ⊆ x) t k c (i .each) (meet-largest (i .each k) (⊆-trans d (g w t i)));
+      }
+
+  -- a strike that changes nothing strikes nothing
+  strike-idle : strike v r t ≡ t → Idle v t r
+  unfolding strike
+  strike-idle e =
+      let k = v * r .row + r .column in
+      let c = meet (getD t k 0) (r .bound t) in
+      ⊎-elim
+      (λ l.
+      let f : c ≡ getD t k 0 = sym (getD-set-same t k c 0 (ltb→lt k (length t) l)) ∙ ap (λ (u : List ℕ). getD u k 0) e in
+      subst (λ (x : ℕ). x ⊆ r .bound t) f (meet-right (getD t k 0) (r .bound t)))
+      (λ n. subst (λ (x : ℕ). x ⊆ r .bound t) (sym (List·getD-eq-default t 0 (nltb→le k (length t) n))) (zero-⊆ (r .bound t)))
+      (T-decide (ltb k (length t)))
+
+-- ---- sweeps
+
+-- u is what the rules leave of t: a table inside it in which they strike nothing, and which holds every such table
+record Left (v : ℕ) (rs : List Rule) (t u : List ℕ) : Type 0 where
+  table : Table v u
+  inside : Inside u t
+  idle : All (Idle v u) rs
+  keeps : (w : List ℕ) → Inside w t → All (Idle v w) rs → Inside w u
+
+all-tail : {P : Rule → Type 0} {r : Rule} {rs : List Rule} → All P (r ∷ rs) → All P rs
+all-tail h x m = h x (List·Memᴰ·tail m)
+
+all-head : {P : Rule → Type 0} {r : Rule} {rs : List Rule} → All P (r ∷ rs) → P r
+all-head {r = r} h = h r (List·Memᴰ·head refl)
+
+all-cons : {P : Rule → Type 0} {r : Rule} {rs : List Rule} → P r → All P rs → All P (r ∷ rs)
+all-cons {P} {r} a h x m = ⊎-elim (λ (e : x ≡ r). subst P (sym e) a) (h x) (List·Memᴰ·cases-cons m)
+
+module _ (v : ℕ) where
+  sweep-table : (rs : List Rule) (t : List ℕ) → Table v t → Table v (sweep v rs t)
+  unfolding sweep
+  sweep-table [] t h = h
+  sweep-table (r ∷ rs) t h = sweep-table rs (strike v r t) (strike-table v r h)
+
+  sweep-inside : (rs : List Rule) (t : List ℕ) → Inside (sweep v rs t) t
+  unfolding sweep
+  sweep-inside [] t = inside-refl t
+  sweep-inside (r ∷ rs) t = inside-trans (sweep-inside rs (strike v r t)) (strike-inside v r)
+
+  sweep-keeps : (rs : List Rule) (t : List ℕ) → All (λ r. Grows (r .bound)) rs → (w : List ℕ) → Inside w t → All (Idle v w) rs
+      → Inside w (sweep v rs t)
+  unfolding sweep
+  sweep-keeps [] t g w i d = i
+  sweep-keeps (r ∷ rs) t g w i d =
+      sweep-keeps rs (strike v r t) (all-tail g) w (strike-keeps v r (all-head g) i (all-head d)) (all-tail d)
+
+  -- a sweep that leaves as many relations found each rule idle
+  sweep-idle : (rs : List Rule) (t : List ℕ) → Table v t → total t ≤ total (sweep v rs t) → All (Idle v t) rs
+  unfolding sweep
+  sweep-idle [] t h l = λ x m. absurd (List·Memᴰ·not-nil m)
+  sweep-idle (r ∷ rs) t h l =
+      let e : strike v r t ≡ t =
+      total-tight (strike-table v r h) h (strike-inside v r) (omega (arith, total-mono (sweep-inside rs (strike v r t)))) in
+      all-cons (strike-idle v r e) (sweep-idle rs t h (subst (λ (u : List ℕ). total t ≤ total (sweep v rs u)) e l))
+
+  sweeps-left : (n : ℕ) (rs : List Rule) (t : List ℕ) → All (λ r. Grows (r .bound)) rs → Table v t → total t < n → Left v rs t (sweeps n v rs t)
+  unfolding sweeps
+  sweeps-left zero rs t g h l = absurd (not-suc-le-zero l)
+  sweeps-left (suc n) rs t g h l = go (eqb (total (sweep v rs t)) (total t)) refl (λ k. sweeps-left n rs (sweep v rs t) g (sweep-table rs t h) k)
+    where
+      inner : total (sweep v rs t) ≤ total t
+      inner = total-mono (sweep-inside rs t)
+
+      go : (b : Bool) → eqb (total (sweep v rs t)) (total t) ≡ b → (total (sweep v rs t) < n → Left v rs (sweep v rs t) (sweeps n v rs (sweep v rs t)))
+          → Left v rs t (elim b [ true ↦ t | false ↦ sweeps n v rs (sweep v rs t) ])
+      go true e k =
+          let q : total (sweep v rs t) ≡ total t = eqb→eq (total (sweep v rs t)) (total t) (true-T e) in
+          record { table = h; inside = inside-refl t; idle = sweep-idle rs t h (omega arith); keeps = λ w i d. i }
+      go false e k =
+          let f : Left v rs (sweep v rs t) (sweeps n v rs (sweep v rs t)) = k (less inner) in
+          record {
+            table = f .table;
+            inside = inside-trans (f .inside) (sweep-inside rs t);
+            idle = f .idle;
+            keeps = λ w i d. f .keeps w (sweep-keeps rs t g w i d) d;
+          }
+        where
+          differ : total (sweep v rs t) ≡ total t → ⊥
+          differ q = subst T e (subst (λ (m : ℕ). T (eqb (total (sweep v rs t)) m)) q (eqb-refl (total (sweep v rs t))))
+
+          less : total (sweep v rs t) ≤ total t → total (sweep v rs t) < n
+          less i = omega (arith, differ)
+
+-- the closing gives the largest closed table inside a table
+pub closing-largest : (s : Sheet) (t : List ℕ) → Table (s .boards) t → Largest s t (closing s t)
+unfolding closing
+closing-largest s t h =
+    let f : Left (s .boards) (rules s) t (closing s t) = sweeps-left (s .boards) (suc (total t)) (rules s) t (rules-grow s) h (omega arith) in
+    record {
+      table = f .table;
+      closed = idle-closed s (closing s t) (f .idle);
+      inside = f .inside;
+      largest = λ w k c i. f .keeps w i (closed-idle c);
+    }
+
+-- there is only one
+pub largest-unique : {s : Sheet} {t u w : List ℕ} → Largest s t u → Largest s t w → u ≡ w
+largest-unique {u = u} {w = w} a b =
+    inside-antisym (a .table) (b .table) (b .largest u (a .table) (a .closed) (a .inside)) (a .largest w (b .table) (b .closed) (b .inside))
+
+-- ---- empty cells
+
+-- the table with nothing in it
+pub blank : ℕ → List ℕ
+blank v = replicate (v * v) 0
+
+blank-at : (v k : ℕ) → getD (blank v) k 0 ≡ 0
+unfolding blank
+blank-at v k =
+    ⊎-elim (λ l. getD-replicate (v * v) k 0 0 (ltb→lt k (v * v) l))
+    (λ n. List·getD-eq-default (replicate (v * v) 0) 0
+    (subst (λ (m : ℕ). m ≤ k) (sym (length-replicate (v * v) 0)) (nltb→le k (v * v) n))) (T-decide (ltb k (v * v)))
+
+-- the all-empty table is closed
+pub blank-closed : (s : Sheet) → Closed s (blank (s .boards))
+blank-closed s =
+    idle-closed s (blank (s .boards))
+    (λ r m. subst (λ (x : ℕ). x ⊆ r .bound (blank (s .boards))) (sym (blank-at (s .boards) (s .boards * r .row + r .column))) (zero-⊆ (r .bound (blank (s .boards)))))
+
+-- each place of a table is a cell
+pub place : (v k : ℕ) → k < v * v → (p : ℕ) × (q : ℕ) × (p < v) × (q < v) × (k ≡ v * p + q)
+place zero k h = let z : ⊥ = omega arith in absurd z
+place (suc n) k h =
+    let v : ℕ = suc n in
+    (k / v, k % v, div-lt-iff-lt-mul {k = v} (omega arith) .1 h, mod-lt k {m = v} (omega arith), sym (div-add-mod k v))
+
+module _ {s : Sheet} {t : List ℕ} (h : Table (s .boards) t) (c : Closed s t) where
+  -- an empty cell empties its row, its column and every cell
+  empty-row : (p q r : ℕ) → p < s .boards → q < s .boards → r < s .boards → cell (s .boards) t p q ≡ 0 → cell (s .boards) t p r ≡ 0
+  empty-row p q r hp hq hr e =
+      ⊆-zero (h .small (s .boards * p + r))
+      (subst (λ (x : ℕ). cell (s .boards) t p r ⊆ x) (ap (λ (x : ℕ). compose x (cell (s .boards) t q r)) e ∙ compose-zero-left (cell (s .boards) t q r))
+      (c .rule3 p q r hp hq hr))
+
+  empty-turn : (p q : ℕ) → p < s .boards → q < s .boards → cell (s .boards) t p q ≡ 0 → cell (s .boards) t q p ≡ 0
+  empty-turn p q hp hq e =
+      ⊆-zero (h .small (s .boards * q + p)) (subst (λ (x : ℕ). cell (s .boards) t q p ⊆ x) (ap converse e ∙ converse-zero) (c .rule2 p q hp hq))
+
+  empty-all : (p q : ℕ) → p < s .boards → q < s .boards → cell (s .boards) t p q ≡ 0 → (x y : ℕ) → x < s .boards → y < s .boards
+      → cell (s .boards) t x y ≡ 0
+  empty-all p q hp hq e x y hx hy =
+      empty-row x p y hx hp hy (empty-turn p x hp hx (empty-row p q x hp hq hx e))
+
+  -- what holds of the empty cell holds of every place
+  empty-place : (p q : ℕ) → p < s .boards → q < s .boards → cell (s .boards) t p q ≡ 0 → (k : ℕ) → k < length t → getD t k 0 ≡ 0
+  empty-place p q hp hq e k l = at (place (s .boards) k (subst (λ (n : ℕ). k < n) (h .cells) l))
+    where
+      at : (x : ℕ) × (y : ℕ) × (x < s .boards) × (y < s .boards) × (k ≡ s .boards * x + y) → getD t k 0 ≡ 0
+      at m = ap (λ (j : ℕ). getD t j 0) (m .4) ∙ empty-all p q hp hq e (m .0) (m .1) (m .2) (m .3)
+
+  -- a closed table with an empty cell is all-empty
+  pub closed-emptied : T (emptied t) → t ≡ blank (s .boards)
+  unfolding blank
+  closed-emptied e = all (emptied-out t e)
+    where
+      all : (k : ℕ) × (k < length t) × (getD t k 0 ≡ 0) → t ≡ blank (s .boards)
+      all m = from (place (s .boards) (m .0) (subst (λ (n : ℕ). m .0 < n) (h .cells) (m .1)))
+        where
+          from : (p : ℕ) × (q : ℕ) × (p < s .boards) × (q < s .boards) × (m .0 ≡ s .boards * p + q) → t ≡ blank (s .boards)
+          from n =
+              ext-getD 0 t (blank (s .boards)) (h .cells ∙ sym (length-replicate (s .boards * s .boards) 0))
+              (λ k l. empty-place (n .0) (n .1) (n .2) (n .3) (ap (λ (j : ℕ). getD t j 0) (sym (n .4)) ∙ m .2) k l ∙ sym (blank-at (s .boards) k))

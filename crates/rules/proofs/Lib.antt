@@ -1,0 +1,14 @@
+-- The laws, each once, beside the definitions of specs/.
+pub mod Sets
+pub mod Composition
+pub mod Members
+pub mod Inside
+pub mod Rules
+pub mod Largest
+pub mod Arrangements
+pub mod Panels
+pub mod Stages
+pub mod Choices
+pub mod Order
+pub mod Search
+pub mod Shown

@@ -1,0 +1,87 @@
+-- What each call answers and leaves (01, 'Refusal numbers'), for whatever it is lent.
+-- Assumes nothing.
+use mathlib.Core.Bool.{Bool, true, false, _&&_}
+use mathlib.Core.List.{List, [], _∷_}
+use Prim.Native.Nat.{ℕ, zero, suc, _*_, _-_}
+use lib.Dec.{leb, ltb, eqb}
+use lib.ListN.{length, replicate}
+use Rattle.rules.specs.Relations.{sets, full, size, within}
+use Rattle.rules.specs.Descriptions.{Sheet, Reading, good, refused, read, mostBoards}
+use Rattle.rules.specs.Tables.{cell, emptied}
+use Rattle.rules.specs.Closed.{strikes}
+use Rattle.rules.specs.Closing.{Rule, rules, closing}
+use Rattle.rules.specs.Search.{End, found, none, Capped, ended, ranOut, search, cap}
+
+-- a number, a count, and the lent table afterwards
+pub record Outcome : Type 0 where
+  pub number : ℕ
+  pub count : ℕ
+  pub table : List ℕ
+
+-- all refusals leave the lent table as it came
+abbrev pub refuse : ℕ → ℕ → List ℕ → Outcome
+refuse n c t = record { number = n; count = c; table = t }
+
+abbrev pub succeed : ℕ → List ℕ → Outcome
+succeed c t = record { number = 0; count = c; table = t }
+
+-- each number is a set of relations
+abbrev pub setsOnly : List ℕ → Bool
+setsOnly [] = true
+setsOnly (x ∷ xs) = elim (ltb x sets) [ true ↦ setsOnly xs | false ↦ false ]
+
+-- 6: the table hasn't V times V cells, or a cell is above 15
+unfoldable pub wellFormed : ℕ → List ℕ → Bool
+wellFormed v t = eqb (length t) (v * v) && setsOnly t
+
+-- 1 to 5 and then 6 come before the rest
+abbrev pub given : List ℕ → List ℕ → (Sheet → Outcome) → Outcome
+given ws t f =
+    elim (read ws) [
+      | good s ↦ elim (wellFormed (s .boards) t) [ true ↦ f s | false ↦ refuse 6 0 t ]
+      | refused n ↦ refuse n 0 t
+    ]
+
+-- reading: 0 to 5
+unfoldable pub reading : List ℕ → ℕ
+reading ws = elim (read ws) [ good s ↦ 0 | refused n ↦ n ]
+
+-- the fresh table: filled with 15; 1 where V is out of range, then 6 for a wrong number of cells
+unfoldable pub fresh : ℕ → List ℕ → Outcome
+fresh v t =
+    elim (leb 1 v && leb v mostBoards) [
+      | true ↦ elim (eqb (length t) (v * v)) [ true ↦ succeed 0 (replicate (v * v) full) | false ↦ refuse 6 0 t ]
+      | false ↦ refuse 1 0 t
+    ]
+
+-- closing: the relations struck; 7 where the largest closed table has an empty cell
+unfoldable pub close : List ℕ → List ℕ → Outcome
+close ws t =
+    given ws t (λ s. let u = closing s t in elim (emptied u) [ true ↦ refuse 7 0 t | false ↦ succeed (strikes t u) u ])
+
+-- searching: the tries made; 8 where there is none, with the tries made; 9 where the budget ran out, with the budget
+abbrev pub answer : List ℕ → Capped → Outcome
+answer t (ended (found n w)) = succeed n w
+answer t (ended (none n)) = refuse 8 n t
+answer t (ranOut b) = refuse 9 b t
+
+unfoldable pub searching : List ℕ → List ℕ → List ℕ → ℕ → Outcome
+searching ord ws t b = given ws t (λ s. answer t (cap b (search (closing s) ord (s .boards) t)))
+
+-- every cell is a single relation
+abbrev pub singlesOnly : List ℕ → Bool
+singlesOnly [] = true
+singlesOnly (x ∷ xs) = elim (eqb (size x) 1) [ true ↦ singlesOnly xs | false ↦ false ]
+
+-- no rule strikes anything
+abbrev pub idle : ℕ → List ℕ → List Rule → Bool
+idle v t [] = true
+idle v t (r ∷ rs) = elim (within (cell v t (r .row) (r .column)) (r .bound t)) [ true ↦ idle v t rs | false ↦ false ]
+
+-- the table is an arrangement
+unfoldable pub arranged : Sheet → List ℕ → Bool
+arranged s t = singlesOnly t && idle (s .boards) t (rules s)
+
+-- the check: 10 where the table is no arrangement
+unfoldable pub check : List ℕ → List ℕ → Outcome
+check ws t = given ws t (λ s. elim (arranged s t) [ true ↦ succeed 0 t | false ↦ refuse 10 0 t ])

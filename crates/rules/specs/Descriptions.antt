@@ -1,0 +1,120 @@
+-- Descriptions (01, 'The description' and 'Refusal numbers' 1 to 5): the meaning of a run of words, or its first refusal.
+-- Assumes nothing.
+use mathlib.Core.Bool.{Bool, true, false, not, _&&_, _||_}
+use mathlib.Core.List.{List, [], _∷_, List·Memᴰ}
+use Prim.Native.Nat.{ℕ, zero, suc, _+_, _-_, _≤_, _<_}
+use lib.Dec.{leb, ltb, eqb}
+use lib.ListN.{length, getD, take, drop}
+use Rattle.rules.specs.Expressions.{Value, value, malformed, expression}
+
+-- the most boards, relation lines, kind lines, words of an expression and ways
+abbrev pub mostBoards : ℕ
+mostBoards = 16
+
+abbrev pub mostLines : ℕ
+mostLines = 128
+
+abbrev pub mostKinds : ℕ
+mostKinds = 16
+
+abbrev pub mostWords : ℕ
+mostWords = 15
+
+abbrev pub mostWays : ℕ
+mostWays = 8
+
+-- (p, q) is in the set
+pub record RelationLine : Type 0 where
+  pub p : ℕ
+  pub q : ℕ
+  pub allowed : ℕ
+
+-- p is a panel of this code, and feeds exactly these ways, in order
+pub record KindLine : Type 0 where
+  pub p : ℕ
+  pub code : ℕ
+  pub ways : List ℕ
+
+pub record Sheet : Type 0 where
+  pub boards : ℕ
+  pub lines : List RelationLine
+  pub kinds : List KindLine
+
+-- what is read, or the number of the first refusal
+pub data Reading (X : Type 0) : Type 0 where
+  good : X → Reading X
+  refused : ℕ → Reading X
+
+-- a line and the words of its section after it
+pub record Front (X : Type 0) : Type 0 where
+  pub line : X
+  pub rest : List ℕ
+
+module _ {X : Type 0} where
+  -- refused with this number unless the test passes
+  abbrev pub need : ℕ → Bool → Reading X → Reading X
+  need n true r = r
+  need n false r = refused n
+
+  abbrev pub next : {Y : Type 0} → Reading Y → (Y → Reading X) → Reading X
+  next (good y) f = f y
+  next (refused n) f = refused n
+
+-- the meaning of a whole expression, or refusal 5
+abbrev pub meaning : Value → Reading ℕ
+meaning (value x []) = good x
+meaning (value x (w ∷ ws)) = refused 5
+meaning malformed = refused 5
+
+-- Relation line: p, q, a length from 1 to 15, then that many words of an expression. Within a line 3 comes first, then 4, then 5.
+unfoldable pub relationLine : ℕ → List ℕ → Reading (Front RelationLine)
+relationLine v [] = refused 3
+relationLine v (p ∷ []) = refused 3
+relationLine v (p ∷ q ∷ []) = refused 3
+relationLine v (p ∷ q ∷ n ∷ ws) =
+    need 3 (leb 1 n && leb n mostWords && leb n (length ws))
+    (need 4 (ltb p v && ltb q v)
+    (next (meaning (expression (take n ws)))
+    (λ x. good (record { line = record { p = p; q = q; allowed = x }; rest = drop n ws }))))
+
+-- each of these is a board
+abbrev pub boardsOnly : ℕ → List ℕ → Bool
+boardsOnly v [] = true
+boardsOnly v (y ∷ ys) = ltb y v && boardsOnly v ys
+
+-- Kind line: p, a kind code (any word), a number of ways n from 0 to 8, then n boards in order.
+unfoldable pub kindLine : ℕ → List ℕ → Reading (Front KindLine)
+kindLine v [] = refused 3
+kindLine v (p ∷ []) = refused 3
+kindLine v (p ∷ c ∷ []) = refused 3
+kindLine v (p ∷ c ∷ n ∷ ws) =
+    need 3 (leb n mostWays && leb n (length ws))
+    (need 4 (ltb p v && boardsOnly v (take n ws))
+    (good (record { line = record { p = p; code = c; ways = take n ws }; rest = drop n ws })))
+
+-- Each section is filled exactly by its lines: words left over are refused with 3, after the lines.
+unfoldable pub section : {X : Type 0} → (List ℕ → Reading (Front X)) → ℕ → List ℕ → Reading (List X)
+section line zero [] = good []
+section line zero (w ∷ ws) = refused 3
+section line (suc n) ws = next (line ws) (λ l. next (section line n (l .rest)) (λ ls. good (l .line ∷ ls)))
+
+-- The header: the numbers of boards, relation lines and kind lines, the offsets of the two sections, the total number of words.
+-- Refusals come in the order 1, 2, then the first faulty line.
+unfoldable pub read : List ℕ → Reading Sheet
+read ws =
+    let v = getD ws 0 0 in
+    let lines = getD ws 1 0 in
+    let kinds = getD ws 2 0 in
+    let kindsAt = getD ws 4 0 in
+    let words = getD ws 5 0 in
+    need 1 (leb 6 (length ws) && (leb 1 v && leb v mostBoards) && leb lines mostLines && leb kinds mostKinds)
+    (need 2 (eqb (getD ws 3 0) 6 && (leb 6 kindsAt && leb kindsAt words) && eqb words (length ws))
+    (next (section (relationLine v) lines (take (kindsAt - 6) (drop 6 ws)))
+    (λ ls. next (section (kindLine v) kinds (drop kindsAt ws)) (λ ks. good (record { boards = v; lines = ls; kinds = ks })))))
+
+-- what the words of a good description come to
+pub record WellFormed (s : Sheet) : Type 0 where
+  pub boards : (1 ≤ s .boards) × (s .boards ≤ mostBoards)
+  pub lines : (length (s .lines) ≤ mostLines) × ((l : RelationLine) → List·Memᴰ l (s .lines) → (l .p < s .boards) × (l .q < s .boards))
+  pub kinds : (length (s .kinds) ≤ mostKinds) × ((k : KindLine) → List·Memᴰ k (s .kinds)
+      → (k .p < s .boards) × (length (k .ways) ≤ mostWays) × ((i : ℕ) → i < length (k .ways) → getD (k .ways) i 0 < s .boards))

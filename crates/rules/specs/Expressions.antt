@@ -1,0 +1,46 @@
+-- Expressions in prefix order (01, 'The description'): their meaning, and when they are refused.
+-- Assumes nothing.
+use mathlib.Core.List.{List, [], _∷_}
+use Prim.Native.Nat.{ℕ, zero, suc}
+use lib.ListN.{length, getD}
+use Rattle.rules.specs.Relations.{E, A, B, S, join, meet, complement, converse}
+
+-- a code stands for a set, for an operator with two operands or with one, or for nothing
+pub data Code : Type 0 where
+  relation : ℕ → Code
+  two : (ℕ → ℕ → ℕ) → Code
+  one : (ℕ → ℕ) → Code
+  unknown : Code
+
+-- Codes 0, 1, 2, 3 are E, A, B, S; 4 is union and 5 intersection, with two operands; 6 is complement and 7 inverse, with one.
+unfoldable pub codes : List Code
+codes = relation E ∷ relation A ∷ relation B ∷ relation S ∷ two join ∷ two meet ∷ one complement ∷ one converse ∷ []
+
+unfoldable pub code : ℕ → Code
+code w = getD codes w unknown
+
+-- an expression at the front of some words: its set and the words after it; or there is none
+pub data Value : Type 0 where
+  value : ℕ → List ℕ → Value
+  malformed : Value
+
+abbrev pub andThen : Value → (ℕ → List ℕ → Value) → Value
+andThen (value x ws) f = f x ws
+andThen malformed f = malformed
+
+-- An operator is followed by its operands, each a whole expression, which `operand` reads off the words left.
+unfoldable pub follow : (List ℕ → Value) → Code → List ℕ → Value
+follow operand (relation x) ws = value x ws
+follow operand (two f) ws = andThen (operand ws) (λ x more. andThen (operand more) (λ y rest. value (f x y) rest))
+follow operand (one f) ws = andThen (operand ws) (λ x rest. value (f x) rest)
+follow operand unknown ws = malformed
+
+-- the expression at the front of words of which there are at most n
+unfoldable pub evaluate : ℕ → List ℕ → Value
+evaluate zero ws = malformed
+evaluate (suc n) [] = malformed
+evaluate (suc n) (w ∷ ws) = follow (λ left. evaluate n left) (code w) ws
+
+-- The expression must use its whole length and no more: its set, with no word after it.
+unfoldable pub expression : List ℕ → Value
+expression ws = evaluate (length ws) ws

@@ -1,0 +1,41 @@
+-- Tables of sets (01, 'An arrangement' and 'Closed tables'): V times V cells, cell (p, q) at V times p plus q.
+-- Assumes nothing.
+use mathlib.Core.Path.{_≡_}
+use mathlib.Core.Bool.{Bool, true, false}
+use mathlib.Core.List.{List, [], _∷_}
+use Prim.Native.Nat.{ℕ, zero, suc, _+_, _*_, _<_}
+use lib.Dec.{eqb}
+use lib.ListN.{length, getD}
+use Rattle.rules.specs.Relations.{sets, _⊆_, size}
+
+abbrev pub cell : ℕ → List ℕ → ℕ → ℕ → ℕ
+cell v t p q = getD t (v * p + q) 0
+
+-- a well-formed table
+pub record Table (v : ℕ) (t : List ℕ) : Type 0 where
+  pub cells : length t ≡ v * v
+  pub small : (k : ℕ) → getD t k 0 < sets
+
+-- the table u is inside the table t: each cell of u lies within t's
+pub record Inside (u t : List ℕ) : Type 0 where
+  pub cells : length u ≡ length t
+  pub each : (k : ℕ) → getD u k 0 ⊆ getD t k 0
+
+-- some cell is empty
+unfoldable pub emptied : List ℕ → Bool
+emptied [] = false
+emptied (x ∷ xs) = elim (eqb x 0) [ true ↦ true | false ↦ emptied xs ]
+
+-- the number of relations in all cells together
+unfoldable pub total : List ℕ → ℕ
+total [] = 0
+total (x ∷ xs) = size x + total xs
+
+-- the numbers from i on, n of them
+abbrev pub range : ℕ → ℕ → List ℕ
+range i zero = []
+range i (suc n) = i ∷ range (suc i) n
+
+-- the numbers below n, rising
+abbrev pub upTo : ℕ → List ℕ
+upTo n = range 0 n

@@ -13,10 +13,10 @@ use lib.ListN.{length, getD, set, length-set}
 use lib.Seq.{getD-set-same}
 use Rattle.rules.specs.Relations.{relations, sets, E, has, size, _⊆_, converse, opposite}
 use Rattle.rules.specs.Descriptions.{Sheet, WellFormed}
-use Rattle.rules.specs.Tables.{Table, Inside, cell, emptied, upTo}
+use Rattle.rules.specs.Tables.{Table, Inside, at, emptied, upTo}
 use Rattle.rules.specs.Arrangements.{Arrangement}
 use Rattle.rules.specs.Closed.{Closed, Largest}
-use Rattle.rules.specs.Search.{Order, End, found, none, later, proceed, attempt, choose, places, search, rank, Before}
+use Rattle.rules.specs.Search.{Order, End, found, none, later, proceed, orElse, attempt, choose, places, search, rank, Before}
 use Rattle.rules.proofs.Sets.{true-T, T-true, T-decide, has-single, single-has, ⊆-refl, ⊆-trans, ⊆-zero, ⊆-one, single-⊆, single-small, ⊆-single, size-mono, size-tight, size-single, size-one, size-pos, some-member, has-small}
 use Rattle.rules.proofs.Composition.{opposite-small, converse-single}
 use Rattle.rules.proofs.Members.{All, all-none, all-one, over-all, all-over, upTo-in, upTo-out}
@@ -102,7 +102,7 @@ module _ {s : Sheet} (f : WellFormed s) {clo : List ℕ → List ℕ} (closes : 
     table : Table (s .boards) t
     closed : Closed s t
     whole : T (not (emptied t))
-    settled : (p q : ℕ) → p < q → q < s .boards → List·Memᴰ (s .boards * p + q) ks ⊎ (size (cell (s .boards) t p q) ≤ 1)
+    settled : (p q : ℕ) → p < q → q < s .boards → List·Memᴰ (s .boards * p + q) ks ⊎ (size (at s t p q) ≤ 1)
 
   pub arrangement-one : {u : List ℕ} → Arrangement s u → (k : ℕ) → k < s .boards * s .boards → One (getD u k 0)
   arrangement-one {u} a k h = from (place (s .boards) k h)
@@ -124,43 +124,43 @@ module _ {s : Sheet} (f : WellFormed s) {clo : List ℕ → List ℕ} (closes : 
   -- ---- where no choice is left
 
   module _ {t : List ℕ} (r : Ready [] t) where
-    filled : (p q : ℕ) → p < s .boards → q < s .boards → cell (s .boards) t p q ≡ 0 → ⊥
+    filled : (p q : ℕ) → p < s .boards → q < s .boards → at s t p q ≡ 0 → ⊥
     filled p q hp hq e =
         T-not (emptied t) (r .whole)
         (emptied-in t (s .boards * p + q) (subst (λ (n : ℕ). s .boards * p + q < n) (sym (r .table .cells)) (in-range (s .boards) p q hp hq)) e)
 
-    upper : (p q : ℕ) → p < q → q < s .boards → One (cell (s .boards) t p q)
+    upper : (p q : ℕ) → p < q → q < s .boards → One (at s t p q)
     upper p q h hq = from (r .settled p q h hq)
       where
-        from : List·Memᴰ (s .boards * p + q) [] ⊎ (size (cell (s .boards) t p q) ≤ 1) → One (cell (s .boards) t p q)
+        from : List·Memᴰ (s .boards * p + q) [] ⊎ (size (at s t p q) ≤ 1) → One (at s t p q)
         from (inl m) = absurd (List·Memᴰ·not-nil m)
         from (inr l) =
             let m = some-member (r .table .small (s .boards * p + q)) (filled p q (omega arith) hq) in
-            let b : 0 < size (cell (s .boards) t p q) = size-pos (cell (s .boards) t p q) (m .0) (m .1) (m .2) in
-            size-one (cell (s .boards) t p q) (r .table .small (s .boards * p + q)) (omega arith)
+            let b : 0 < size (at s t p q) = size-pos (at s t p q) (m .0) (m .1) (m .2) in
+            size-one (at s t p q) (r .table .small (s .boards * p + q)) (omega arith)
 
-    lower : (p q : ℕ) → q < p → p < s .boards → One (cell (s .boards) t p q)
+    lower : (p q : ℕ) → q < p → p < s .boards → One (at s t p q)
     lower p q h hp =
         let o = upper q p h hp in
         let hq : q < s .boards = omega arith in
-        let c : cell (s .boards) t p q ⊆ 2 ^ opposite (o .0) =
-        subst (λ (x : ℕ). cell (s .boards) t p q ⊆ x) (ap converse (o .2) ∙ converse-single (o .0) (o .1)) (r .closed .rule2 q p hq hp) in (
+        let c : at s t p q ⊆ 2 ^ opposite (o .0) =
+        subst (λ (x : ℕ). at s t p q ⊆ x) (ap converse (o .2) ∙ converse-single (o .0) (o .1)) (r .closed .rule2 q p hq hp) in (
           opposite (o .0),
           opposite-small (o .0) (o .1),
           ⊆-one (opposite (o .0)) (r .table .small (s .boards * p + q)) (opposite-small (o .0) (o .1)) c (filled p q hp hq),
         )
 
-    middle : (p q : ℕ) → p ≡ q → p < s .boards → One (cell (s .boards) t p q)
+    middle : (p q : ℕ) → p ≡ q → p < s .boards → One (at s t p q)
     middle p q e hp =
         let z : 0 < relations = omega (arith, relations-pos) in
         let hq : q < s .boards = omega arith in (
           0,
           z,
           ⊆-one 0 (r .table .small (s .boards * p + q)) z
-              (subst (λ (x : ℕ). cell (s .boards) t p x ⊆ E) e (r .closed .rule1 p hp)) (filled p q hp hq),
+              (subst (λ (x : ℕ). at s t p x ⊆ E) e (r .closed .rule1 p hp)) (filled p q hp hq),
         )
 
-    singles : Singles (s .boards) t
+    singles : Singles s t
     singles p q hp hq =
         ⊎-elim (λ l. upper p q (ltb→lt p q l) hq)
         (λ n. ⊎-elim (λ l. lower p q (ltb→lt q p l) hp)
@@ -177,7 +177,7 @@ module _ {s : Sheet} (f : WellFormed s) {clo : List ℕ → List ℕ} (closes : 
     right-up l (none n) r = λ x a i. r x a (arrangement-kept f l a i)
 
     proceed-right : (t : List ℕ) → Table (s .boards) t
-        → ((p q : ℕ) → p < q → q < s .boards → List·Memᴰ (s .boards * p + q) ks ⊎ (size (cell (s .boards) (clo t) p q) ≤ 1))
+        → ((p q : ℕ) → p < q → q < s .boards → List·Memᴰ (s .boards * p + q) ks ⊎ (size (at s (clo t) p q) ≤ 1))
         → Right ks t (proceed go (clo t))
     proceed-right t h d = from (emptied (clo t)) refl
       where
@@ -265,17 +265,17 @@ module _ {s : Sheet} (f : WellFormed s) {clo : List ℕ → List ℕ} (closes : 
         at-place u i = subst (λ (x : ℕ). getD u k 0 ⊆ x) (getD-set-same t k (2 ^ r) 0 in-list) (i .each k)
 
         settled : (p q : ℕ) → p < q → q < s .boards
-            → List·Memᴰ (s .boards * p + q) ks ⊎ (size (cell (s .boards) (clo (set t k (2 ^ r))) p q) ≤ 1)
+            → List·Memᴰ (s .boards * p + q) ks ⊎ (size (at s (clo (set t k (2 ^ r))) p q) ≤ 1)
         settled p q h l = from (ready .settled p q h l)
           where
             inner : Inside (clo (set t k (2 ^ r))) (set t k (2 ^ r))
             inner = closes (set t k (2 ^ r)) narrowed .inside
 
-            from : List·Memᴰ (s .boards * p + q) (k ∷ ks) ⊎ (size (cell (s .boards) t p q) ≤ 1)
-                → List·Memᴰ (s .boards * p + q) ks ⊎ (size (cell (s .boards) (clo (set t k (2 ^ r))) p q) ≤ 1)
+            from : List·Memᴰ (s .boards * p + q) (k ∷ ks) ⊎ (size (at s t p q) ≤ 1)
+                → List·Memᴰ (s .boards * p + q) ks ⊎ (size (at s (clo (set t k (2 ^ r))) p q) ≤ 1)
             from (inl m) = ⊎-elim here (λ d. inl d) (List·Memᴰ·cases-cons m)
               where
-                here : s .boards * p + q ≡ k → List·Memᴰ (s .boards * p + q) ks ⊎ (size (cell (s .boards) (clo (set t k (2 ^ r))) p q) ≤ 1)
+                here : s .boards * p + q ≡ k → List·Memᴰ (s .boards * p + q) ks ⊎ (size (at s (clo (set t k (2 ^ r))) p q) ≤ 1)
                 here e =
                     inr
                     (subst (λ (j : ℕ). size (getD (clo (set t k (2 ^ r))) j 0) ≤ 1) (sym e)
@@ -320,14 +320,14 @@ module _ {s : Sheet} (f : WellFormed s) {clo : List ℕ → List ℕ} (closes : 
           out e u a i h = subst T e (i .each k .member r (has-small relations (getD u k 0) r (a .table .small k) h) h)
 
           tried : T (has (getD t k 0) r) → (e : End) → Right ks (set t k (2 ^ r)) e → Best rs k ks t (attempt clo go k t rs)
-              → Best (r ∷ rs) k ks t (elim e [ found n w ↦ found (suc n) w | none n ↦ later (suc n) (attempt clo go k t rs) ])
+              → Best (r ∷ rs) k ks t (orElse e (attempt clo go k t rs))
           tried h (found n w) d b = try-found r h rs n (suc n) w d
           tried h (none n) d b =
               best-later (r ∷ rs) k ks t (suc n) (attempt clo go k t rs)
               (best-skip r rs k ks t (try-none r h n d) (attempt clo go k t rs) b)
 
           from : (b : Bool) → has (getD t k 0) r ≡ b → Best rs k ks t (attempt clo go k t rs)
-              → Best (r ∷ rs) k ks t (elim b [ false ↦ attempt clo go k t rs | true ↦ elim (proceed go (clo (set t k (2 ^ r)))) [ found n w ↦ found (suc n) w | none n ↦ later (suc n) (attempt clo go k t rs) ] ])
+              → Best (r ∷ rs) k ks t (elim b [ true ↦ orElse (proceed go (clo (set t k (2 ^ r)))) (attempt clo go k t rs) | false ↦ attempt clo go k t rs ])
           from true e b = tried (true-T e) (proceed go (clo (set t k (2 ^ r)))) (try-right r (true-T e)) b
           from false e b = best-skip r rs k ks t (out e) (attempt clo go k t rs) b
 
@@ -370,8 +370,8 @@ module _ {s : Sheet} (f : WellFormed s) {clo : List ℕ → List ℕ} (closes : 
         next : size (getD t k 0) ≤ 1 → Ready ks t
         next l = record { table = r .table; closed = r .closed; whole = r .whole; settled = λ p q h g. on p q (r .settled p q h g) }
           where
-            on : (p q : ℕ) → List·Memᴰ (s .boards * p + q) (k ∷ ks) ⊎ (size (cell (s .boards) t p q) ≤ 1)
-                → List·Memᴰ (s .boards * p + q) ks ⊎ (size (cell (s .boards) t p q) ≤ 1)
+            on : (p q : ℕ) → List·Memᴰ (s .boards * p + q) (k ∷ ks) ⊎ (size (at s t p q) ≤ 1)
+                → List·Memᴰ (s .boards * p + q) ks ⊎ (size (at s t p q) ≤ 1)
             on p q (inl m) =
                 ⊎-elim (λ (e : s .boards * p + q ≡ k). inr (subst (λ (j : ℕ). size (getD t j 0) ≤ 1) (sym e) l)) (λ d. inl d) (List·Memᴰ·cases-cons m)
             on p q (inr d) = inr d

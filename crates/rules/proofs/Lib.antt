@@ -8,7 +8,11 @@ pub mod Largest
 pub mod Arrangements
 pub mod Panels
 pub mod Stages
+pub mod Expressions
+pub mod Descriptions
 pub mod Choices
+pub mod FirstPair
 pub mod Order
 pub mod Search
+pub mod Calls
 pub mod Shown

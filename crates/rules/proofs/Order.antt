@@ -12,7 +12,7 @@ use lib.ListN.{length, getD}
 use lib.Seq.{ext-getD}
 use Rattle.rules.specs.Relations.{relations, has, converse}
 use Rattle.rules.specs.Descriptions.{Sheet}
-use Rattle.rules.specs.Tables.{cell}
+use Rattle.rules.specs.Tables.{at}
 use Rattle.rules.specs.Arrangements.{Arrangement}
 use Rattle.rules.specs.Search.{Order, places, rank, Before}
 use Rattle.rules.proofs.Sets.{T-decide, has-single}
@@ -29,16 +29,16 @@ agree-at (j ∷ ks) t u a k m =
     ⊎-elim (λ (e : k ≡ j). subst (λ (i : ℕ). getD t i 0 ≡ getD u i 0) (sym e) (a .0)) (λ n. agree-at ks t u (a .1) k n) (List·Memᴰ·cases-cons m)
 
 module _ {s : Sheet} {t u : List ℕ} (a : Arrangement s t) (b : Arrangement s u) (g : Agree (places (s .boards)) t u) where
-  upper : (p q : ℕ) → p < q → q < s .boards → cell (s .boards) t p q ≡ cell (s .boards) u p q
+  upper : (p q : ℕ) → p < q → q < s .boards → at s t p q ≡ at s u p q
   upper p q h l = agree-at (places (s .boards)) t u g (s .boards * p + q) (places-in (s .boards) p q h l)
 
-  cells : (p q : ℕ) → p < s .boards → q < s .boards → cell (s .boards) t p q ≡ cell (s .boards) u p q
+  cells : (p q : ℕ) → p < s .boards → q < s .boards → at s t p q ≡ at s u p q
   cells p q hp hq =
       ⊎-elim (λ l. upper p q (ltb→lt p q l) hq)
       (λ n. ⊎-elim
       (λ l. a .rule2 q p hq hp ∙ ap converse (upper q p (ltb→lt q p l) hp) ∙ sym (b .rule2 q p hq hp))
       (λ m.
-      subst (λ (x : ℕ). cell (s .boards) t p x ≡ cell (s .boards) u p x) (le-antisymm (nltb→le q p m) (nltb→le p q n))
+      subst (λ (x : ℕ). at s t p x ≡ at s u p x) (le-antisymm (nltb→le q p m) (nltb→le p q n))
       (a .rule1 p hp ∙ sym (b .rule1 p hp))) (T-decide (ltb q p))) (T-decide (ltb p q))
 
   pub agree-equal : t ≡ u

@@ -4,16 +4,16 @@ use mathlib.Core.Path.{_≡_, refl, sym, ap, subst}
 use mathlib.Core.Bool.{Bool, true, false, not, _&&_, _||_}
 use mathlib.Core.Logic.{_⊎_, inl, inr, ⊎-elim}
 use mathlib.Core.List.{List, [], _∷_, _++_, List·Memᴰ}
-use Prim.Native.Nat.{ℕ, zero, suc, _+_, _*_, _<_}
+use Prim.Native.Nat.{ℕ, zero, suc, _+_, _*_, _^_, _<_}
 use native.Mathlib.Omega.{arith}
-use lib.Dec.{T, eqb, not-T, T-not}
-use Rattle.rules.specs.Relations.{someBelow, eachBelow, relations, E, A, S, has, full, join, complement, _⊆_, within, converse, compose}
+use lib.Dec.{T, eqb, eqb→eq, eqb-refl, not-T, T-not}
+use Rattle.rules.specs.Relations.{someBelow, eachBelow, relations, same, above, E, A, S, has, Lacks, full, join, complement, _⊆_, within, converse, compose}
 use Rattle.rules.specs.Descriptions.{RelationLine, KindLine, Sheet}
-use Rattle.rules.specs.Tables.{Table, Inside, cell, upTo}
-use Rattle.rules.specs.Arrangements.{way, width}
-use Rattle.rules.specs.Closed.{unless, reaches, agree, bound6, bound6′, bound7, bound7′, Closed}
-use Rattle.rules.specs.Closing.{Rule, Idle, lies, only, boardsOf, kindsOf, waysOf, rules1, rules2, rules3, rules4, rules5, rules6, rules7, rules}
-use Rattle.rules.proofs.Sets.{and-T, T-and-left, T-and-right, or-T-left, or-T-right, T-or, some-in, some-out, each-at, each-all, ⊆-refl, ⊆-trans, ⊆-full, within-⊆, ⊆-within}
+use Rattle.rules.specs.Tables.{Table, Inside, at, upTo}
+use Rattle.rules.specs.Arrangements.{way, width, Alike}
+use Rattle.rules.specs.Closed.{Misses, Closed}
+use Rattle.rules.specs.Closing.{unless, reaches, agree, bound6, bound6′, bound7, bound7′, Rule, Idle, lies, only, boardsOf, kindsOf, waysOf, rules1, rules2, rules3, rules4, rules5, rules6, rules7, rules}
+use Rattle.rules.proofs.Sets.{and-T, T-and-left, T-and-right, or-T-left, or-T-right, T-or, some-in, some-out, each-at, each-all, T-decide, T-not-not, has-single, single-has, complement-in, complement-out, ⊆-refl, ⊆-trans, ⊆-full, within-⊆, ⊆-within}
 use Rattle.rules.proofs.Composition.{converse-mono, compose-mono}
 use Rattle.rules.proofs.Members.{All, all-none, all-one, one-all, all-append, append-left, append-right, all-over, over-all, upTo-in, upTo-out}
 
@@ -47,20 +47,20 @@ module _ (P : Rule → Type 0) where
   -- P holds of each rule: the sentences of rules 1 to 7
   pub record Rules (s : Sheet) : Type 0 where
     pub r1 : (p : ℕ) → p < s .boards → At p p (λ t. E)
-    pub r2 : (p q : ℕ) → p < s .boards → q < s .boards → At q p (λ t. converse (cell (s .boards) t p q))
+    pub r2 : (p q : ℕ) → p < s .boards → q < s .boards → At q p (λ t. converse (at s t p q))
     pub r3 : (p q r : ℕ) → p < s .boards → q < s .boards → r < s .boards
-        → At p r (λ t. compose (cell (s .boards) t p q) (cell (s .boards) t q r))
+        → At p r (λ t. compose (at s t p q) (at s t q r))
     pub r4 : (l : RelationLine) → List·Memᴰ l (s .lines) → At (l .p) (l .q) (λ t. l .allowed)
     pub r5 : (k : KindLine) → List·Memᴰ k (s .kinds) → (i : ℕ) → i < width k → At (k .p) (way k i) (λ t. A)
     pub r5′ : (k : KindLine) → List·Memᴰ k (s .kinds) → (i j : ℕ) → i < width k → j < width k → T (not (eqb i j))
         → At (way k i) (way k j) (λ t. S)
-    pub r6 : (k : KindLine) → List·Memᴰ k (s .kinds) → (z : ℕ) → z < s .boards → At (k .p) z (λ t. bound6 (s .boards) t k z)
+    pub r6 : (k : KindLine) → List·Memᴰ k (s .kinds) → (z : ℕ) → z < s .boards → At (k .p) z (λ t. bound6 s t k z)
     pub r6′ : (k : KindLine) → List·Memᴰ k (s .kinds) → (z : ℕ) → z < s .boards → (i : ℕ) → i < width k
-        → At (way k i) z (λ t. bound6′ (s .boards) t k i z)
+        → At (way k i) z (λ t. bound6′ s t k i z)
     pub r7 : (k : KindLine) → List·Memᴰ k (s .kinds) → (l : KindLine) → List·Memᴰ l (s .kinds)
-        → At (k .p) (l .p) (λ t. bound7 (s .boards) t k l)
+        → At (k .p) (l .p) (λ t. bound7 s t k l)
     pub r7′ : (k : KindLine) → List·Memᴰ k (s .kinds) → (l : KindLine) → List·Memᴰ l (s .kinds) → T (agree k l) → (i : ℕ) → i < width k
-        → At (way k i) (way l i) (λ t. bound7′ (s .boards) t k l)
+        → At (way k i) (way l i) (λ t. bound7′ s t k l)
 
   module _ (s : Sheet) where
     all5 : Rules s → (k : KindLine) → List·Memᴰ k (s .kinds) → (i : ℕ) → i < width k
@@ -70,14 +70,14 @@ module _ (P : Rule → Type 0) where
         (λ j n. all-only (not (eqb i j)) (lies (way k i) (way k j) (λ t. S)) (λ d. all-one P (h .r5′ k m i j l n d)))
 
     all6 : Rules s → (k : KindLine) → List·Memᴰ k (s .kinds) → (z : ℕ) → z < s .boards
-        → All P (waysOf k (λ i. lies (way k i) z (λ t. bound6′ (s .boards) t k i z)))
-    all6 h k m z n = all-ways k (λ i. lies (way k i) z (λ t. bound6′ (s .boards) t k i z)) (λ i l. all-one P (h .r6′ k m z n i l))
+        → All P (waysOf k (λ i. lies (way k i) z (λ t. bound6′ s t k i z)))
+    all6 h k m z n = all-ways k (λ i. lies (way k i) z (λ t. bound6′ s t k i z)) (λ i l. all-one P (h .r6′ k m z n i l))
 
     all7 : Rules s → (k : KindLine) → List·Memᴰ k (s .kinds) → (l : KindLine) → List·Memᴰ l (s .kinds)
-        → All P (only (agree k l) (waysOf k (λ i. lies (way k i) (way l i) (λ t. bound7′ (s .boards) t k l))))
+        → All P (only (agree k l) (waysOf k (λ i. lies (way k i) (way l i) (λ t. bound7′ s t k l))))
     all7 h k m l n =
-        all-only (agree k l) (waysOf k (λ i. lies (way k i) (way l i) (λ t. bound7′ (s .boards) t k l)))
-        (λ a. all-ways k (λ i. lies (way k i) (way l i) (λ t. bound7′ (s .boards) t k l)) (λ i b. all-one P (h .r7′ k m l n a i b)))
+        all-only (agree k l) (waysOf k (λ i. lies (way k i) (way l i) (λ t. bound7′ s t k l)))
+        (λ a. all-ways k (λ i. lies (way k i) (way l i) (λ t. bound7′ s t k l)) (λ i b. all-one P (h .r7′ k m l n a i b)))
 
     -- what holds of each rule holds of the list
     pub all-rules : Rules s → All P (rules s)
@@ -91,9 +91,9 @@ module _ (P : Rule → Type 0) where
         (all-over P _ (s .kinds) (λ k m. all-ways k _ (λ i l. all-append P (lies (k .p) (way k i) (λ t. A)) (all-one P (h .r5 k m i l)) (all5 h k m i l))))
         (all-append P (rules6 s)
         (all-over P _ (s .kinds) (λ k m. all-boards s _ (λ z n.
-        all-append P (lies (k .p) z (λ t. bound6 (s .boards) t k z)) (all-one P (h .r6 k m z n)) (all6 h k m z n))))
+        all-append P (lies (k .p) z (λ t. bound6 s t k z)) (all-one P (h .r6 k m z n)) (all6 h k m z n))))
         (all-over P _ (s .kinds) (λ k m. all-over P _ (s .kinds) (λ l n.
-        all-append P (lies (k .p) (l .p) (λ t. bound7 (s .boards) t k l)) (all-one P (h .r7 k m l n)) (all7 h k m l n)))))))))
+        all-append P (lies (k .p) (l .p) (λ t. bound7 s t k l)) (all-one P (h .r7 k m l n)) (all7 h k m l n)))))))))
 
     -- and what holds of the list holds of each rule
     pub rules-all : All P (rules s) → Rules s
@@ -114,14 +114,14 @@ module _ (P : Rule → Type 0) where
           r5′ =
               λ k m i j l n d.
               one-all P (only-all (not (eqb i j)) _ (ways-all k _ (append-right P (lies (k .p) (way k i) (λ t. A)) _ (at5 h5 k m i l)) j n) d);
-          r6 = λ k m z n. one-all P (append-left P (lies (k .p) z (λ t. bound6 (s .boards) t k z)) _ (at6 h6 k m z n));
+          r6 = λ k m z n. one-all P (append-left P (lies (k .p) z (λ t. bound6 s t k z)) _ (at6 h6 k m z n));
           r6′ =
-              λ k m z n i l. one-all P (ways-all k _ (append-right P (lies (k .p) z (λ t. bound6 (s .boards) t k z)) _ (at6 h6 k m z n)) i l);
-          r7 = λ k m l n. one-all P (append-left P (lies (k .p) (l .p) (λ t. bound7 (s .boards) t k l)) _ (at7 h7 k m l n));
+              λ k m z n i l. one-all P (ways-all k _ (append-right P (lies (k .p) z (λ t. bound6 s t k z)) _ (at6 h6 k m z n)) i l);
+          r7 = λ k m l n. one-all P (append-left P (lies (k .p) (l .p) (λ t. bound7 s t k l)) _ (at7 h7 k m l n));
           r7′ =
               λ k m l n a i b.
               one-all P
-              (ways-all k _ (only-all (agree k l) _ (append-right P (lies (k .p) (l .p) (λ t. bound7 (s .boards) t k l)) _ (at7 h7 k m l n)) a) i b);
+              (ways-all k _ (only-all (agree k l) _ (append-right P (lies (k .p) (l .p) (λ t. bound7 s t k l)) _ (at7 h7 k m l n)) a) i b);
         }
       where
         at5 : All P (rules5 s ++ (rules6 s ++ rules7 s)) → (k : KindLine) → List·Memᴰ k (s .kinds) → (i : ℕ) → i < width k
@@ -129,23 +129,220 @@ module _ (P : Rule → Type 0) where
         at5 h k m i l = ways-all k _ (over-all P _ (s .kinds) (append-left P (rules5 s) (rules6 s ++ rules7 s) h) k m) i l
 
         at6 : All P (rules6 s ++ rules7 s) → (k : KindLine) → List·Memᴰ k (s .kinds) → (z : ℕ) → z < s .boards
-            → All P (lies (k .p) z (λ t. bound6 (s .boards) t k z) ++ waysOf k (λ i. lies (way k i) z (λ t. bound6′ (s .boards) t k i z)))
+            → All P (lies (k .p) z (λ t. bound6 s t k z) ++ waysOf k (λ i. lies (way k i) z (λ t. bound6′ s t k i z)))
         at6 h k m z n = boards-all s _ (over-all P _ (s .kinds) (append-left P (rules6 s) (rules7 s) h) k m) z n
 
         at7 : All P (rules7 s) → (k : KindLine) → List·Memᴰ k (s .kinds) → (l : KindLine) → List·Memᴰ l (s .kinds)
-            → All P (lies (k .p) (l .p) (λ t. bound7 (s .boards) t k l) ++ only (agree k l) (waysOf k (λ i. lies (way k i) (way l i) (λ t. bound7′ (s .boards) t k l))))
+            → All P (lies (k .p) (l .p) (λ t. bound7 s t k l) ++ only (agree k l) (waysOf k (λ i. lies (way k i) (way l i) (λ t. bound7′ s t k l))))
         at7 h k m l n = over-all P _ (s .kinds) (over-all P _ (s .kinds) h k m) l n
+
+-- ---- what a bound says
+
+pub relations-pos : 1 < relations
+unfolding relations
+relations-pos = omega arith
+
+same-small : same < relations
+same-small = omega (arith, relations-pos)
+
+unless-in : (b : Bool) (x m : ℕ) → (T (not b) → x ⊆ m) → x ⊆ unless b m
+unless-in true x m f = ⊆-full x
+unless-in false x m f = f tt
+
+unless-out : (b : Bool) (x m : ℕ) → x ⊆ unless b m → T (not b) → x ⊆ m
+unless-out true x m s t = absurd t
+unless-out false x m s t = s
+
+-- to lack a relation is to lie within the others
+lacks-⊆ : (x r : ℕ) → Lacks x r → x ⊆ complement (2 ^ r)
+lacks-⊆ x r l =
+    record
+    { member = λ n h t. complement-in (2 ^ r) n h (λ u. T-not (has x r) l (subst (λ (m : ℕ). T (has x m)) (single-has r n u) t)) }
+
+⊆-lacks : (x r : ℕ) → r < relations → x ⊆ complement (2 ^ r) → Lacks x r
+⊆-lacks x r h s = not-T (has x r) (λ t. complement-out (2 ^ r) r h (s .member r h t) (has-single r))
+
+pub misses-not : (x : ℕ) → Misses x → T (reaches x) → ⊥
+unfolding reaches
+misses-not x m t = ⊎-elim (T-not (has x same) (m .0)) (T-not (has x above) (m .1)) (T-or (has x same) (has x above) t)
+
+pub not-misses : (x : ℕ) → (T (reaches x) → ⊥) → Misses x
+unfolding reaches
+not-misses x f = (
+  not-T (has x same) (λ t. f (or-T-left (has x same) (has x above) t)),
+  not-T (has x above) (λ t. f (or-T-right (has x same) (has x above) t)),
+)
+
+pub alike-agree : (k l : KindLine) → Alike k l → T (agree k l)
+unfolding agree
+alike-agree k l a =
+    and-T (eqb (k .code) (l .code)) (eqb (width k) (width l)) (subst (λ (n : ℕ). T (eqb (k .code) n)) (a .0) (eqb-refl (k .code)))
+    (subst (λ (n : ℕ). T (eqb (width k) n)) (a .1) (eqb-refl (width k)))
+
+pub agree-alike : (k l : KindLine) → T (agree k l) → Alike k l
+unfolding agree
+agree-alike k l t = (
+  eqb→eq (k .code) (l .code) (T-and-left (eqb (k .code) (l .code)) (eqb (width k) (width l)) t),
+  eqb→eq (width k) (width l) (T-and-right (eqb (k .code) (l .code)) (eqb (width k) (width l)) t),
+)
+
+pub differ-T : {i j : ℕ} → (i ≡ j → ⊥) → T (not (eqb i j))
+differ-T {i} {j} n = not-T (eqb i j) (λ e. n (eqb→eq i j e))
+
+pub T-differ : {i j : ℕ} → T (not (eqb i j)) → i ≡ j → ⊥
+T-differ {i} {j} t e = T-not (eqb i j) t (subst (λ (k : ℕ). T (eqb i k)) e (eqb-refl i))
+
+module _ (s : Sheet) (t : List ℕ) where
+  -- rule 6, both parts, and rule 7, all three, say what their bounds say
+  module _ (k : KindLine) (z : ℕ) where
+    none-reaches : ((i : ℕ) → i < width k → Misses (at s t (way k i) z)) → T (not (someBelow (width k) (λ i. reaches (at s t (way k i) z))))
+    none-reaches f = not-T (someBelow (width k) (λ i. reaches (at s t (way k i) z))) (λ a. from (some-out (width k) (λ i. reaches (at s t (way k i) z)) a))
+      where
+        from : (i : ℕ) × (i < width k) × T (reaches (at s t (way k i) z)) → ⊥
+        from m = misses-not (at s t (way k (m .0)) z) (f (m .0) (m .1)) (m .2)
+
+    reaches-none : T (not (someBelow (width k) (λ i. reaches (at s t (way k i) z)))) → (i : ℕ) → i < width k → Misses (at s t (way k i) z)
+    reaches-none n i h =
+        not-misses (at s t (way k i) z)
+        (λ a. T-not (someBelow (width k) (λ i. reaches (at s t (way k i) z))) n (some-in (width k) (λ i. reaches (at s t (way k i) z)) i h a))
+
+    says6 : at s t (k .p) z ⊆ bound6 s t k z → ((i : ℕ) → i < width k → Misses (at s t (way k i) z)) → Lacks (at s t (k .p) z) above
+    unfolding bound6
+    says6 h f =
+        ⊆-lacks (at s t (k .p) z) above relations-pos
+        (unless-out (someBelow (width k) (λ i. reaches (at s t (way k i) z))) (at s t (k .p) z) (complement A) h (none-reaches f))
+
+    said6 : (((i : ℕ) → i < width k → Misses (at s t (way k i) z)) → Lacks (at s t (k .p) z) above) → at s t (k .p) z ⊆ bound6 s t k z
+    unfolding bound6
+    said6 f =
+        unless-in (someBelow (width k) (λ i. reaches (at s t (way k i) z))) (at s t (k .p) z) (complement A)
+        (λ n. lacks-⊆ (at s t (k .p) z) above (f (reaches-none n)))
+
+    module _ (i : ℕ) where
+      escapes : Bool
+      escapes = not (within (at s t (k .p) z) A)
+
+      others : Bool
+      others = someBelow (width k) (λ j. not (eqb i j) && reaches (at s t (way k j) z))
+
+      says6′ : at s t (way k i) z ⊆ bound6′ s t k i z → at s t (k .p) z ⊆ A
+          → ((j : ℕ) → j < width k → (i ≡ j → ⊥) → Misses (at s t (way k j) z)) → at s t (way k i) z ⊆ join E A
+      unfolding bound6′ escapes others
+      says6′ h a f = unless-out (escapes || others) (at s t (way k i) z) (join E A) h (not-T (escapes || others) (λ o. ⊎-elim left right (T-or escapes others o)))
+        where
+          left : T (not (within (at s t (k .p) z) A)) → ⊥
+          left e = T-not (within (at s t (k .p) z) A) e (⊆-within a)
+
+          right : T (someBelow (width k) (λ j. not (eqb i j) && reaches (at s t (way k j) z))) → ⊥
+          right o = from (some-out (width k) (λ j. not (eqb i j) && reaches (at s t (way k j) z)) o)
+            where
+              from : (j : ℕ) × (j < width k) × T (not (eqb i j) && reaches (at s t (way k j) z)) → ⊥
+              from m =
+                  misses-not (at s t (way k (m .0)) z)
+                  (f (m .0) (m .1) (T-differ (T-and-left (not (eqb i (m .0))) (reaches (at s t (way k (m .0)) z)) (m .2))))
+                  (T-and-right (not (eqb i (m .0))) (reaches (at s t (way k (m .0)) z)) (m .2))
+
+      said6′ : (at s t (k .p) z ⊆ A → ((j : ℕ) → j < width k → (i ≡ j → ⊥) → Misses (at s t (way k j) z)) → at s t (way k i) z ⊆ join E A)
+          → at s t (way k i) z ⊆ bound6′ s t k i z
+      unfolding bound6′ escapes others
+      said6′ f =
+          unless-in (escapes || others) (at s t (way k i) z) (join E A)
+          (λ n.
+          f
+          (within-⊆ (at s t (k .p) z) A (T-not-not (within (at s t (k .p) z) A) (λ e. T-not (escapes || others) n (or-T-left escapes others e))))
+          (λ j h d.
+          not-misses (at s t (way k j) z)
+          (λ a.
+          T-not (escapes || others) n
+          (or-T-right escapes others
+          (some-in (width k) (λ j. not (eqb i j) && reaches (at s t (way k j) z)) j h
+          (and-T (not (eqb i j)) (reaches (at s t (way k j) z)) (differ-T d) a))))))
+
+  module _ (k l : KindLine) where
+    paired : Bool
+    paired = eachBelow (width k) (λ i. has (at s t (way k i) (way l i)) same)
+
+    says7 : at s t (k .p) (l .p) ⊆ bound7 s t k l → (Alike k l → ⊥) → Lacks (at s t (k .p) (l .p)) same
+    unfolding bound7 paired
+    says7 h f =
+        ⊆-lacks (at s t (k .p) (l .p)) same same-small
+        (unless-out (agree k l && paired) (at s t (k .p) (l .p)) (complement E) h
+        (not-T (agree k l && paired) (λ a. f (agree-alike k l (T-and-left (agree k l) paired a)))))
+
+    says7′ : at s t (k .p) (l .p) ⊆ bound7 s t k l → (i : ℕ) → i < width k → Lacks (at s t (way k i) (way l i)) same
+        → Lacks (at s t (k .p) (l .p)) same
+    unfolding bound7 paired
+    says7′ h i g f =
+        ⊆-lacks (at s t (k .p) (l .p)) same same-small
+        (unless-out (agree k l && paired) (at s t (k .p) (l .p)) (complement E) h
+        (not-T (agree k l && paired)
+        (λ a. T-not (has (at s t (way k i) (way l i)) same) f
+        (each-at (width k) (λ i. has (at s t (way k i) (way l i)) same) (T-and-right (agree k l) paired a) i g))))
+
+    said7 : ((Alike k l → ⊥) → Lacks (at s t (k .p) (l .p)) same)
+        → (Alike k l → (i : ℕ) → i < width k → Lacks (at s t (way k i) (way l i)) same → Lacks (at s t (k .p) (l .p)) same)
+        → at s t (k .p) (l .p) ⊆ bound7 s t k l
+    unfolding bound7 paired
+    said7 f g =
+        unless-in (agree k l && paired) (at s t (k .p) (l .p)) (complement E)
+        (λ n. lacks-⊆ (at s t (k .p) (l .p)) same (⊎-elim (λ a. alike (agree-alike k l a) a n) (λ d. f (λ a. T-not (agree k l) d (alike-agree k l a))) (T-decide (agree k l))))
+      where
+        alike : Alike k l → T (agree k l) → T (not (agree k l && eachBelow (width k) (λ i. has (at s t (way k i) (way l i)) same)))
+            → Lacks (at s t (k .p) (l .p)) same
+        alike a e n =
+            not-T (has (at s t (k .p) (l .p)) same)
+            (λ h.
+            T-not (agree k l && paired) n
+            (and-T (agree k l) paired e
+            (each-all (width k) (λ i. has (at s t (way k i) (way l i)) same)
+            (λ i b.
+            T-not-not (has (at s t (way k i) (way l i)) same) (λ c. T-not (has (at s t (k .p) (l .p)) same) (g a i b c) h)))))
+
+    says7″ : (i : ℕ) → at s t (way k i) (way l i) ⊆ bound7′ s t k l → at s t (k .p) (l .p) ⊆ E → at s t (way k i) (way l i) ⊆ E
+    unfolding bound7′
+    says7″ i h a =
+        unless-out (not (within (at s t (k .p) (l .p)) E)) (at s t (way k i) (way l i)) E h
+        (not-T (not (within (at s t (k .p) (l .p)) E)) (λ e. T-not (within (at s t (k .p) (l .p)) E) e (⊆-within a)))
+
+    said7″ : (i : ℕ) → (at s t (k .p) (l .p) ⊆ E → at s t (way k i) (way l i) ⊆ E) → at s t (way k i) (way l i) ⊆ bound7′ s t k l
+    unfolding bound7′
+    said7″ i f =
+        unless-in (not (within (at s t (k .p) (l .p)) E)) (at s t (way k i) (way l i)) E
+        (λ n. f (within-⊆ (at s t (k .p) (l .p)) E (T-not-not (within (at s t (k .p) (l .p)) E) (λ e. T-not (not (within (at s t (k .p) (l .p)) E)) n e))))
 
 -- a table is closed exactly if each rule of the list strikes nothing
 pub closed-idle : {s : Sheet} {t : List ℕ} → Closed s t → All (Idle (s .boards) t) (rules s)
 closed-idle {s} {t} c =
     all-rules (Idle (s .boards) t) s
-    (record { r1 = c .rule1; r2 = c .rule2; r3 = c .rule3; r4 = c .rule4; r5 = c .rule5; r5′ = c .rule5′; r6 = c .rule6; r6′ = c .rule6′; r7 = c .rule7; r7′ = c .rule7′ })
+    (record {
+      r1 = c .rule1;
+      r2 = c .rule2;
+      r3 = c .rule3;
+      r4 = c .rule4;
+      r5 = c .rule5;
+      r5′ = λ k m i j h l d. c .rule5′ k m i j h l (T-differ d);
+      r6 = λ k m z h. said6 s t k z (c .rule6 k m z h);
+      r6′ = λ k m z h i l. said6′ s t k z i (c .rule6′ k m z h i l);
+      r7 = λ k m l n. said7 s t k l (c .rule7 k m l n) (c .rule7′ k m l n);
+      r7′ = λ k m l n a i h. said7″ s t k l i (λ b. c .rule7″ k m l n (agree-alike k l a) b i h);
+    })
 
 pub idle-closed : (s : Sheet) (t : List ℕ) → All (Idle (s .boards) t) (rules s) → Closed s t
 idle-closed s t h =
     let r = rules-all (Idle (s .boards) t) s h in
-    record { rule1 = r .r1; rule2 = r .r2; rule3 = r .r3; rule4 = r .r4; rule5 = r .r5; rule5′ = r .r5′; rule6 = r .r6; rule6′ = r .r6′; rule7 = r .r7; rule7′ = r .r7′ }
+    record {
+      rule1 = r .r1;
+      rule2 = r .r2;
+      rule3 = r .r3;
+      rule4 = r .r4;
+      rule5 = r .r5;
+      rule5′ = λ k m i j g l d. r .r5′ k m i j g l (differ-T d);
+      rule6 = λ k m z g. says6 s t k z (r .r6 k m z g);
+      rule6′ = λ k m z g i l. says6′ s t k z i (r .r6′ k m z g i l);
+      rule7 = λ k m l n. says7 s t k l (r .r7 k m l n);
+      rule7′ = λ k m l n a i g. says7′ s t k l (r .r7 k m l n) i g;
+      rule7″ = λ k m l n a b i g. says7″ s t k l i (r .r7′ k m l n (alike-agree k l a) i g) b;
+    }
 
 -- ---- bounds that grow with the table
 
@@ -158,10 +355,6 @@ unless-grows true false m h = absurd (h tt)
 unless-grows false true m h = ⊆-full m
 unless-grows false false m h = ⊆-refl m
 
-pub relations-pos : 1 < relations
-unfolding relations
-relations-pos = omega arith
-
 pub reaches-grows : {x y : ℕ} → x ⊆ y → T (reaches x) → T (reaches y)
 unfolding reaches
 reaches-grows {x} {y} s t =
@@ -172,51 +365,51 @@ reaches-grows {x} {y} s t =
 escapes-grows : {x y : ℕ} (m : ℕ) → x ⊆ y → T (not (within x m)) → T (not (within y m))
 escapes-grows {x} {y} m s t = not-T (within y m) (λ u. T-not (within x m) t (⊆-within (⊆-trans s (within-⊆ y m u))))
 
-module _ (v : ℕ) {u t : List ℕ} (i : Inside u t) where
-  at : (p q : ℕ) → cell v u p q ⊆ cell v t p q
-  at p q = i .each (v * p + q)
+module _ (s : Sheet) {u t : List ℕ} (i : Inside u t) where
+  inside : (p q : ℕ) → at s u p q ⊆ at s t p q
+  inside p q = i .each (s .boards * p + q)
 
-  bound6-grows : (k : KindLine) (z : ℕ) → bound6 v u k z ⊆ bound6 v t k z
+  bound6-grows : (k : KindLine) (z : ℕ) → bound6 s u k z ⊆ bound6 s t k z
   unfolding bound6
   bound6-grows k z =
-      unless-grows (someBelow (width k) (λ i. reaches (cell v u (way k i) z))) (someBelow (width k) (λ i. reaches (cell v t (way k i) z))) (complement A)
-      (λ a. more (some-out (width k) (λ i. reaches (cell v u (way k i) z)) a))
+      unless-grows (someBelow (width k) (λ i. reaches (at s u (way k i) z))) (someBelow (width k) (λ i. reaches (at s t (way k i) z))) (complement A)
+      (λ a. more (some-out (width k) (λ i. reaches (at s u (way k i) z)) a))
     where
-      more : (i : ℕ) × (i < width k) × T (reaches (cell v u (way k i) z)) → T (someBelow (width k) (λ i. reaches (cell v t (way k i) z)))
-      more m = some-in (width k) (λ i. reaches (cell v t (way k i) z)) (m .0) (m .1) (reaches-grows (at (way k (m .0)) z) (m .2))
+      more : (i : ℕ) × (i < width k) × T (reaches (at s u (way k i) z)) → T (someBelow (width k) (λ i. reaches (at s t (way k i) z)))
+      more m = some-in (width k) (λ i. reaches (at s t (way k i) z)) (m .0) (m .1) (reaches-grows (inside (way k (m .0)) z) (m .2))
 
-  bound6′-grows : (k : KindLine) (j z : ℕ) → bound6′ v u k j z ⊆ bound6′ v t k j z
+  bound6′-grows : (k : KindLine) (j z : ℕ) → bound6′ s u k j z ⊆ bound6′ s t k j z
   unfolding bound6′
   bound6′-grows k j z =
       unless-grows
-      (not (within (cell v u (k .p) z) A) || someBelow (width k) (λ i. not (eqb j i) && reaches (cell v u (way k i) z)))
-      (not (within (cell v t (k .p) z) A) || someBelow (width k) (λ i. not (eqb j i) && reaches (cell v t (way k i) z)))
+      (not (within (at s u (k .p) z) A) || someBelow (width k) (λ i. not (eqb j i) && reaches (at s u (way k i) z)))
+      (not (within (at s t (k .p) z) A) || someBelow (width k) (λ i. not (eqb j i) && reaches (at s t (way k i) z)))
       (join E A)
-      (λ a. ⊎-elim (λ b. or-T-left (not (within (cell v t (k .p) z) A)) _ (escapes-grows A (at (k .p) z) b))
-      (λ b. or-T-right (not (within (cell v t (k .p) z) A)) _ (more (some-out (width k) (λ i. not (eqb j i) && reaches (cell v u (way k i) z)) b)))
-      (T-or (not (within (cell v u (k .p) z) A)) _ a))
+      (λ a. ⊎-elim (λ b. or-T-left (not (within (at s t (k .p) z) A)) _ (escapes-grows A (inside (k .p) z) b))
+      (λ b. or-T-right (not (within (at s t (k .p) z) A)) _ (more (some-out (width k) (λ i. not (eqb j i) && reaches (at s u (way k i) z)) b)))
+      (T-or (not (within (at s u (k .p) z) A)) _ a))
     where
-      more : (i : ℕ) × (i < width k) × T (not (eqb j i) && reaches (cell v u (way k i) z))
-          → T (someBelow (width k) (λ i. not (eqb j i) && reaches (cell v t (way k i) z)))
+      more : (i : ℕ) × (i < width k) × T (not (eqb j i) && reaches (at s u (way k i) z))
+          → T (someBelow (width k) (λ i. not (eqb j i) && reaches (at s t (way k i) z)))
       more m =
-          some-in (width k) (λ i. not (eqb j i) && reaches (cell v t (way k i) z)) (m .0) (m .1)
-          (and-T (not (eqb j (m .0))) (reaches (cell v t (way k (m .0)) z)) (T-and-left (not (eqb j (m .0))) (reaches (cell v u (way k (m .0)) z)) (m .2))
-          (reaches-grows (at (way k (m .0)) z) (T-and-right (not (eqb j (m .0))) (reaches (cell v u (way k (m .0)) z)) (m .2))))
+          some-in (width k) (λ i. not (eqb j i) && reaches (at s t (way k i) z)) (m .0) (m .1)
+          (and-T (not (eqb j (m .0))) (reaches (at s t (way k (m .0)) z)) (T-and-left (not (eqb j (m .0))) (reaches (at s u (way k (m .0)) z)) (m .2))
+          (reaches-grows (inside (way k (m .0)) z) (T-and-right (not (eqb j (m .0))) (reaches (at s u (way k (m .0)) z)) (m .2))))
 
-  bound7-grows : (k l : KindLine) → bound7 v u k l ⊆ bound7 v t k l
+  bound7-grows : (k l : KindLine) → bound7 s u k l ⊆ bound7 s t k l
   unfolding bound7
   bound7-grows k l =
-      unless-grows (agree k l && eachBelow (width k) (λ i. has (cell v u (way k i) (way l i)) 0))
-      (agree k l && eachBelow (width k) (λ i. has (cell v t (way k i) (way l i)) 0)) (complement E)
+      unless-grows (agree k l && eachBelow (width k) (λ i. has (at s u (way k i) (way l i)) 0))
+      (agree k l && eachBelow (width k) (λ i. has (at s t (way k i) (way l i)) 0)) (complement E)
       (λ a. and-T (agree k l) _ (T-and-left (agree k l) _ a)
-      (each-all (width k) (λ i. has (cell v t (way k i) (way l i)) 0)
-      (λ i h. at (way k i) (way l i) .member 0 (omega (arith, relations-pos))
-      (each-at (width k) (λ i. has (cell v u (way k i) (way l i)) 0) (T-and-right (agree k l) _ a) i h))))
+      (each-all (width k) (λ i. has (at s t (way k i) (way l i)) 0)
+      (λ i h. inside (way k i) (way l i) .member 0 (omega (arith, relations-pos))
+      (each-at (width k) (λ i. has (at s u (way k i) (way l i)) 0) (T-and-right (agree k l) _ a) i h))))
 
-  bound7′-grows : (k l : KindLine) → bound7′ v u k l ⊆ bound7′ v t k l
+  bound7′-grows : (k l : KindLine) → bound7′ s u k l ⊆ bound7′ s t k l
   unfolding bound7′
   bound7′-grows k l =
-      unless-grows (not (within (cell v u (k .p) (l .p)) E)) (not (within (cell v t (k .p) (l .p)) E)) E (escapes-grows E (at (k .p) (l .p)))
+      unless-grows (not (within (at s u (k .p) (l .p)) E)) (not (within (at s t (k .p) (l .p)) E)) E (escapes-grows E (inside (k .p) (l .p)))
 
 pub rules-grow : (s : Sheet) → All (λ r. Grows (r .bound)) (rules s)
 rules-grow s =
@@ -228,8 +421,8 @@ rules-grow s =
       r4 = λ l m u t i. ⊆-refl (l .allowed);
       r5 = λ k m i h u t n. ⊆-refl A;
       r5′ = λ k m i j h l d u t n. ⊆-refl S;
-      r6 = λ k m z h u t i. bound6-grows (s .boards) i k z;
-      r6′ = λ k m z h j l u t i. bound6′-grows (s .boards) i k j z;
-      r7 = λ k m l n u t i. bound7-grows (s .boards) i k l;
-      r7′ = λ k m l n a j h u t i. bound7′-grows (s .boards) i k l;
+      r6 = λ k m z h u t i. bound6-grows s i k z;
+      r6′ = λ k m z h j l u t i. bound6′-grows s i k j z;
+      r7 = λ k m l n u t i. bound7-grows s i k l;
+      r7′ = λ k m l n a j h u t i. bound7′-grows s i k l;
     })

@@ -50,6 +50,10 @@ pub T-decide : (b : Bool) → T b ⊎ T (not b)
 T-decide true = inl tt
 T-decide false = inr tt
 
+pub T-not-not : (b : Bool) → (T (not b) → ⊥) → T b
+T-not-not true f = tt
+T-not-not false f = f tt
+
 -- two tests that imply one another are equal
 pub T-ext : (a b : Bool) → (T a → T b) → (T b → T a) → a ≡ b
 T-ext true true f g = refl

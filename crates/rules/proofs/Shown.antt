@@ -1,71 +1,22 @@
--- Each of the cases that 01 marks P holds of the definitions, by computing.
+-- Each of the cases holds of the definitions, those that 01 marks P among them, by computing.
 -- Assumes nothing.
 use mathlib.Core.Path.{refl}
 use mathlib.Core.List.{flatMap}
 use Rattle.rules.specs.Relations.{relations, has, setTo, setOf, full, meet, join, complement, within, size, opposite, converse, singles, composed, compose}
 use Rattle.rules.specs.Expressions.{codes, code, follow, evaluate, expression}
-use Rattle.rules.specs.Descriptions.{relationLine, kindLine, section, read}
+use Rattle.rules.specs.Descriptions.{relationLine, kindLine, section, numbersFit, offsetsFit, relationLines, kindLines, read}
 use Rattle.rules.specs.Tables.{emptied, total}
-use Rattle.rules.specs.Closed.{reaches, agree, bound6, bound6′, bound7, bound7′}
-use Rattle.rules.specs.Closing.{rules1, rules2, rules3, rules4, rules5, rules6, rules7, rules, strike, sweep, sweeps, closing}
+use Rattle.rules.specs.Closing.{reaches, agree, bound6, bound6′, bound7, bound7′, rules1, rules2, rules3, rules4, rules5, rules6, rules7, rules, strike, sweep, sweeps, closing}
 use Rattle.rules.specs.Search.{attempt, choose, places, search, cap}
 use Rattle.rules.specs.Calls.{wellFormed, reading, close, searching, arranged, check}
-use Rattle.rules.specs.Cases.{AllHold, cases}
+use Rattle.rules.specs.Cases.{AllHold, done, _also_, cases}
 
 pub shown : AllHold cases
-unfolding relations has setTo setOf full meet join complement within size opposite converse singles composed compose codes code follow evaluate expression relationLine kindLine section read emptied total reaches agree bound6 bound6′ bound7 bound7′ rules1 rules2 rules3 rules4 rules5 rules6 rules7 rules strike sweep sweeps closing attempt choose places search cap wellFormed reading close searching arranged check flatMap
-shown = (
-  refl,
-  (
-    refl,
-    (
-      refl,
-      (
-        refl,
-        (
-          refl,
-          (
-            refl,
-            (
-              refl,
-              (
-                refl,
-                (
-                  refl,
-                  (
-                    refl,
-                    (
-                      (refl, refl),
-                      (
-                        refl,
-                        (
-                          (refl, refl),
-                          (
-                            refl,
-                            (
-                              refl,
-                              (
-                                (refl, refl),
-                                (
-                                  refl,
-                                  (
-                                    (refl, refl),
-                                    (refl, ((refl, refl), ((refl, refl), ((refl, refl), (refl, ((refl, refl), ((refl, refl), tt))))))),
-                                  ),
-                                ),
-                              ),
-                            ),
-                          ),
-                        ),
-                      ),
-                    ),
-                  ),
-                ),
-              ),
-            ),
-          ),
-        ),
-      ),
-    ),
-  ),
-)
+unfolding relations has setTo setOf full meet join complement within size opposite converse singles composed compose codes code follow evaluate expression relationLine kindLine section numbersFit offsetsFit relationLines kindLines read emptied total reaches agree bound6 bound6′ bound7 bound7′ rules1 rules2 rules3 rules4 rules5 rules6 rules7 rules strike sweep sweeps closing attempt choose places search cap wellFormed reading close searching arranged check flatMap
+shown =
+    refl also refl also refl also refl also refl also refl also refl also refl also refl also refl
+    also refl also refl also refl also refl also refl also refl also refl also refl also refl also refl
+    also refl also refl also refl also refl also refl also refl also refl also refl also refl also refl
+    also refl also refl also refl also refl also refl also refl also refl also refl also refl also refl
+    also refl also refl also refl also refl also refl also refl also refl also refl also refl also refl
+    also done

@@ -28,6 +28,7 @@ fewer s w f g c =
       rule6′ = λ k m. c .rule6′ k (g k m);
       rule7 = λ k m l n. c .rule7 k (g k m) l (g l n);
       rule7′ = λ k m l n. c .rule7′ k (g k m) l (g l n);
+      rule7″ = λ k m l n. c .rule7″ k (g k m) l (g l n);
     }
 
 pub among-closed : {s w : Sheet} {t : List ℕ} → Among s w → Closed w t → Closed s t

@@ -1,10 +1,10 @@
--- The sites to try that 01 marks P, as one table. `describe` writes a description from the words of its lines.
+-- The sites to try that 01 marks P, as one table, with a few more behind them. `describe` writes a description from the words of its lines.
 -- Assumes nothing.
 use mathlib.Core.Path.{_≡_}
 use mathlib.Core.List.{List, [], _∷_, _++_}
 use Prim.Native.Nat.{ℕ, _+_, _*_}
 use lib.ListN.{length, replicate}
-use Rattle.rules.specs.Relations.{full, compose}
+use Rattle.rules.specs.Relations.{same, above, below, side, full, compose}
 use Rattle.rules.specs.Expressions.{value, expression}
 use Rattle.rules.specs.Search.{plainOrder}
 use Rattle.rules.specs.Calls.{refuse, succeed, reading, close, searching, check}
@@ -29,51 +29,56 @@ pub data Case : Type 0 where
   composes : (x y z : ℕ) → Case
   -- an expression means the set x
   means : (words : List ℕ) (x : ℕ) → Case
-  -- a description is refused with this number
-  refuses : (words : List ℕ) (number : ℕ) → Case
+  -- the reader answers this number: 0, or the refusal
+  answers : (words : List ℕ) (number : ℕ) → Case
   -- closing the full table strikes so many relations and leaves this table
   closes : (v : ℕ) (lines kinds : List (List ℕ)) (struck : ℕ) (table : List ℕ) → Case
-  -- the search in the full table finds this after so many tries, with just this budget, and the check accepts it
+  -- the full table closes to a contradiction
+  clashes : (v : ℕ) (lines kinds : List (List ℕ)) → Case
+  -- the search in the full table finds this after so many tries, with just this budget
   finds : (v : ℕ) (lines kinds : List (List ℕ)) (tries : ℕ) (table : List ℕ) → Case
+  -- the search in the full table finds nothing, after so many tries, with just this budget
+  exhausts : (v : ℕ) (lines kinds : List (List ℕ)) (tries : ℕ) → Case
   -- the search in the full table runs out of this budget
   runsOut : (v : ℕ) (lines kinds : List (List ℕ)) (budget : ℕ) → Case
-  -- the full table closes to a contradiction, and the search says none after 0 tries, with any budget from 0
-  clashes : (v : ℕ) (lines kinds : List (List ℕ)) → Case
+  -- the check accepts this table
+  accepts : (v : ℕ) (lines kinds : List (List ℕ)) (table : List ℕ) → Case
+  -- the check rejects this table
+  rejects : (v : ℕ) (lines kinds : List (List ℕ)) (table : List ℕ) → Case
 
 abbrev pub Holds : Case → Type 0
 Holds (composes x y z) = compose x y ≡ z
 Holds (means ws x) = expression ws ≡ value x []
-Holds (refuses ws n) = reading ws ≡ n
+Holds (answers ws n) = reading ws ≡ n
 Holds (closes v ls ks n u) = close (describe v ls ks) (filled v) ≡ succeed n u
-Holds (finds v ls ks n u) =
-    (searching plainOrder (describe v ls ks) (filled v) n ≡ succeed n u) × (check (describe v ls ks) u ≡ succeed 0 u)
+Holds (clashes v ls ks) = close (describe v ls ks) (filled v) ≡ refuse 7 0 (filled v)
+Holds (finds v ls ks n u) = searching plainOrder (describe v ls ks) (filled v) n ≡ succeed n u
+Holds (exhausts v ls ks n) = searching plainOrder (describe v ls ks) (filled v) n ≡ refuse 8 n (filled v)
 Holds (runsOut v ls ks b) = searching plainOrder (describe v ls ks) (filled v) b ≡ refuse 9 b (filled v)
-Holds (clashes v ls ks) =
-    (close (describe v ls ks) (filled v) ≡ refuse 7 0 (filled v))
-    × (searching plainOrder (describe v ls ks) (filled v) 0 ≡ refuse 8 0 (filled v))
+Holds (accepts v ls ks u) = check (describe v ls ks) u ≡ succeed 0 u
+Holds (rejects v ls ks u) = check (describe v ls ks) u ≡ refuse 10 0 u
 
-abbrev pub AllHold : List Case → Type 0
-AllHold [] = Unit {0}
-AllHold (c ∷ cs) = Holds c × AllHold cs
+-- each of these cases holds
+infixr 5 _also_
+pub data AllHold : List Case → Type 0 where
+  done : AllHold []
+  _also_ : {c : Case} {cs : List Case} → Holds c → AllHold cs → AllHold (c ∷ cs)
 
--- a relation line whose expression is one code; "p at or above q" is E or A; a kind line of code 7
+-- relation lines: one relation, either of two, "at or above", "not below"; and a kind line of code 7
 abbrev pub is : ℕ → ℕ → ℕ → List ℕ
 is p r q = p ∷ q ∷ 1 ∷ r ∷ []
 
+abbrev pub either : ℕ → ℕ → ℕ → ℕ → List ℕ
+either p r s q = p ∷ q ∷ 3 ∷ 4 ∷ r ∷ s ∷ []
+
 abbrev pub atOrAbove : ℕ → ℕ → List ℕ
-atOrAbove p q = p ∷ q ∷ 3 ∷ 4 ∷ 0 ∷ 1 ∷ []
+atOrAbove p q = either p same above q
+
+abbrev pub notBelow : ℕ → ℕ → List ℕ
+notBelow p q = p ∷ q ∷ 2 ∷ 6 ∷ below ∷ []
 
 abbrev pub feeds : ℕ → List ℕ → List ℕ
 feeds p ways = p ∷ 7 ∷ length ways ∷ ways
-
-abbrev pub same : ℕ
-same = 0
-
-abbrev pub above : ℕ
-above = 1
-
-abbrev pub side : ℕ
-side = 3
 
 abbrev pub cases : List Case
 cases =
@@ -87,8 +92,8 @@ cases =
     ∷ means (7 ∷ 4 ∷ 0 ∷ 1 ∷ []) 5
     ∷ means (5 ∷ 0 ∷ 1 ∷ []) 0
     -- expression 4 0 is refused with 5; so is 0 0
-    ∷ refuses (describe 1 ((0 ∷ 0 ∷ 2 ∷ 4 ∷ 0 ∷ []) ∷ []) []) 5
-    ∷ refuses (describe 1 ((0 ∷ 0 ∷ 2 ∷ 0 ∷ 0 ∷ []) ∷ []) []) 5
+    ∷ answers (describe 1 ((0 ∷ 0 ∷ 2 ∷ 4 ∷ 0 ∷ []) ∷ []) []) 5
+    ∷ answers (describe 1 ((0 ∷ 0 ∷ 2 ∷ 0 ∷ 0 ∷ []) ∷ []) []) 5
     -- V = 1, no lines: closing strikes 3; arrangement after 0 tries
     ∷ closes 1 [] [] 3 (1 ∷ [])
     ∷ finds 1 [] [] 0 (1 ∷ [])
@@ -105,10 +110,13 @@ cases =
     -- V = 3, 0 above 2, 1 above 2: cell (0, 1) closes to 7. With 0 side 1 added: contradictory
     ∷ closes 3 (is 0 above 2 ∷ is 1 above 2 ∷ []) [] 23 (1 ∷ 7 ∷ 2 ∷ 7 ∷ 1 ∷ 2 ∷ 4 ∷ 4 ∷ 1 ∷ [])
     ∷ clashes 3 (is 0 above 2 ∷ is 1 above 2 ∷ is 0 side 1 ∷ []) []
+    ∷ exhausts 3 (is 0 above 2 ∷ is 1 above 2 ∷ is 0 side 1 ∷ []) [] 0
     -- 0 has ways 1 and 1: contradictory
     ∷ clashes 2 [] (feeds 0 (1 ∷ 1 ∷ []) ∷ [])
+    ∷ exhausts 2 [] (feeds 0 (1 ∷ 1 ∷ []) ∷ []) 0
     -- 0 has no ways, 0 above 1: contradictory
     ∷ clashes 2 (is 0 above 1 ∷ []) (feeds 0 [] ∷ [])
+    ∷ exhausts 2 (is 0 above 1 ∷ []) (feeds 0 [] ∷ []) 0
     -- V = 4, 0 has ways 1 and 2, 0 above 3, 1 side 3: cell (2, 3) closes to 3; 1 try; 2 = 3
     ∷ closes 4 (is 0 above 3 ∷ is 1 side 3 ∷ []) (feeds 0 (1 ∷ 2 ∷ []) ∷ []) 46
     (1 ∷ 2 ∷ 2 ∷ 2 ∷ 4 ∷ 1 ∷ 8 ∷ 8 ∷ 4 ∷ 8 ∷ 1 ∷ 3 ∷ 4 ∷ 8 ∷ 5 ∷ 1 ∷ [])
@@ -117,4 +125,43 @@ cases =
     -- V = 4, 0 has way 1, 2 has way 3, same code, 1 = 3: closes to 0 = 2 with no try
     ∷ finds 4 (is 1 same 3 ∷ []) (feeds 0 (1 ∷ []) ∷ feeds 2 (3 ∷ []) ∷ []) 0
     (1 ∷ 2 ∷ 1 ∷ 2 ∷ 4 ∷ 1 ∷ 4 ∷ 1 ∷ 1 ∷ 2 ∷ 1 ∷ 2 ∷ 4 ∷ 1 ∷ 4 ∷ 1 ∷ [])
+    -- Not marked P. Two boards that are each beside a third may be one board: 0 side 2, 1 side 2
+    ∷ closes 3 (is 0 side 2 ∷ is 1 side 2 ∷ []) [] 21 (1 ∷ 15 ∷ 8 ∷ 15 ∷ 1 ∷ 8 ∷ 8 ∷ 8 ∷ 1 ∷ [])
+    -- a panel's ways are all of its ways: 0 has way 1, and 2 cannot be below 0 and beside 1
+    ∷ clashes 3 (is 0 above 2 ∷ is 1 side 2 ∷ []) (feeds 0 (1 ∷ []) ∷ [])
+    ∷ exhausts 3 (is 0 above 2 ∷ is 1 side 2 ∷ []) (feeds 0 (1 ∷ []) ∷ []) 0
+    -- panels that are one board have the same ways: 0 has ways 1 and 2, 3 has ways 4 and 5, same code, 0 = 3
+    ∷ closes 6 (is 0 same 3 ∷ []) (feeds 0 (1 ∷ 2 ∷ []) ∷ feeds 3 (4 ∷ 5 ∷ []) ∷ []) 108
+    (1 ∷ 2 ∷ 2 ∷ 1 ∷ 2 ∷ 2 ∷ 4 ∷ 1 ∷ 8 ∷ 4 ∷ 1 ∷ 8 ∷ 4 ∷ 8 ∷ 1 ∷ 4 ∷ 8 ∷ 1
+    ∷ 1 ∷ 2 ∷ 2 ∷ 1 ∷ 2 ∷ 2 ∷ 4 ∷ 1 ∷ 8 ∷ 4 ∷ 1 ∷ 8 ∷ 4 ∷ 8 ∷ 1 ∷ 4 ∷ 8 ∷ 1 ∷ [])
+    -- no arrangement, as only the tries show
+    ∷ exhausts 5
+    (either 0 above below 3 ∷ either 1 same side 2 ∷ either 1 below side 3 ∷ either 1 above below 4 ∷ either 2 above side 3
+    ∷ either 2 above below 4 ∷ notBelow 3 4 ∷ [])
+    (feeds 0 (4 ∷ []) ∷ []) 3
+    -- an arrangement after tries that failed: what they struck comes back
+    ∷ finds 5 (either 1 below side 3 ∷ notBelow 1 4 ∷ either 2 above below 3 ∷ either 2 above below 4 ∷ either 3 below side 4 ∷ []) [] 5
+    (1 ∷ 1 ∷ 4 ∷ 4 ∷ 8 ∷ 1 ∷ 1 ∷ 4 ∷ 4 ∷ 8 ∷ 2 ∷ 2 ∷ 1 ∷ 2 ∷ 2 ∷ 2 ∷ 2 ∷ 4 ∷ 1 ∷ 8 ∷ 8 ∷ 8 ∷ 4 ∷ 8 ∷ 1 ∷ [])
+    -- the check accepts 0 = 1 for "0 at or above 1", and rejects it for "0 above 1"; it rejects a table that is not single
+    ∷ accepts 2 (atOrAbove 0 1 ∷ []) [] (1 ∷ 1 ∷ 1 ∷ 1 ∷ [])
+    ∷ rejects 2 (is 0 above 1 ∷ []) [] (1 ∷ 1 ∷ 1 ∷ 1 ∷ [])
+    ∷ rejects 2 [] [] (1 ∷ 15 ∷ 15 ∷ 1 ∷ [])
+    -- 16 boards are taken, 17 refused with 1, and so are five words
+    ∷ answers (describe 16 [] []) 0
+    ∷ answers (describe 17 [] []) 1
+    ∷ answers (1 ∷ 0 ∷ 0 ∷ 6 ∷ 6 ∷ []) 1
+    -- a word more than the total is refused with 2
+    ∷ answers (1 ∷ 0 ∷ 0 ∷ 6 ∷ 6 ∷ 6 ∷ 0 ∷ []) 2
+    -- 15 words of an expression are taken, 16 refused with 3; 8 ways taken, 9 refused with 3
+    ∷ answers (describe 1 ((0 ∷ 0 ∷ 15 ∷ (replicate 14 6 ++ (0 ∷ []))) ∷ []) []) 0
+    ∷ answers (describe 1 ((0 ∷ 0 ∷ 16 ∷ (replicate 15 6 ++ (0 ∷ []))) ∷ []) []) 3
+    ∷ answers (describe 1 [] (feeds 0 (replicate 8 0) ∷ [])) 0
+    ∷ answers (describe 1 [] (feeds 0 (replicate 9 0) ∷ [])) 3
+    -- words left over are refused with 3, and a board number equal to V with 4; within a line 3 comes before 4, and 4 before 5
+    ∷ answers (1 ∷ 0 ∷ 0 ∷ 6 ∷ 7 ∷ 7 ∷ 0 ∷ []) 3
+    ∷ answers (describe 2 (is 0 same 2 ∷ []) []) 4
+    ∷ answers (describe 1 ((1 ∷ 0 ∷ 0 ∷ []) ∷ []) []) 3
+    ∷ answers (describe 1 ((1 ∷ 0 ∷ 1 ∷ 8 ∷ []) ∷ []) []) 4
+    -- the first faulty line decides: a 5 in line 0 comes before a 3 in line 1
+    ∷ answers (describe 1 ((0 ∷ 0 ∷ 1 ∷ 8 ∷ []) ∷ (0 ∷ 0 ∷ 0 ∷ []) ∷ []) []) 5
     ∷ []

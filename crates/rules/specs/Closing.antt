@@ -1,15 +1,48 @@
 -- The largest closed table, computed: every rule in turn, over and over, until none strikes anything.
 -- Assumes nothing.
-use mathlib.Core.Bool.{Bool, true, false, not}
+use mathlib.Core.Bool.{Bool, true, false, not, _&&_, _||_}
 use mathlib.Core.List.{List, [], _∷_, _++_, flatMap}
 use Prim.Native.Nat.{ℕ, zero, suc, _+_, _*_}
 use lib.Dec.{eqb}
 use lib.ListN.{set}
-use Rattle.rules.specs.Relations.{E, A, S, meet, _⊆_, converse, compose}
+use Rattle.rules.specs.Relations.{someBelow, eachBelow, same, above, E, A, S, has, full, meet, join, complement, _⊆_, within, converse, compose}
 use Rattle.rules.specs.Descriptions.{KindLine, Sheet}
-use Rattle.rules.specs.Tables.{cell, total, upTo}
+use Rattle.rules.specs.Tables.{cell, at, total, upTo}
 use Rattle.rules.specs.Arrangements.{way, width}
-use Rattle.rules.specs.Closed.{agree, bound6, bound6′, bound7, bound7′}
+
+-- the set m, or all relations where the test passes
+abbrev pub unless : Bool → ℕ → ℕ
+unless true m = full
+unless false m = m
+
+-- at or above: the set has E or A
+unfoldable pub reaches : ℕ → Bool
+reaches x = has x same || has x above
+
+-- code and number of ways agree
+unfoldable pub agree : KindLine → KindLine → Bool
+agree k l = eqb (k .code) (l .code) && eqb (width k) (width l)
+
+-- What rules 6 and 7 leave a cell, for the table t:
+module _ (s : Sheet) (t : List ℕ) where
+  -- (p, z) lacks A, unless some (yi, z) has E or A
+  unfoldable pub bound6 : KindLine → ℕ → ℕ
+  bound6 k z = unless (someBelow (width k) (λ i. reaches (at s t (way k i) z))) (complement A)
+
+  -- (yi, z) lies within {E, A}, unless (p, z) has something else than A or another way has E or A towards z
+  unfoldable pub bound6′ : KindLine → ℕ → ℕ → ℕ
+  bound6′ k i z =
+      unless
+      (not (within (at s t (k .p) z) A) || someBelow (width k) (λ j. not (eqb i j) && reaches (at s t (way k j) z)))
+      (join E A)
+
+  -- (p, q) lacks E, unless code and number of ways agree and each pair of ways in the same position has E
+  unfoldable pub bound7 : KindLine → KindLine → ℕ
+  bound7 k l = unless (agree k l && eachBelow (width k) (λ i. has (at s t (way k i) (way l i)) same)) (complement E)
+
+  -- a pair of ways in the same position lies within {E}, unless (p, q) has something else than E
+  unfoldable pub bound7′ : KindLine → KindLine → ℕ
+  bound7′ k l = unless (not (within (at s t (k .p) (l .p)) E)) E
 
 -- A rule asks that a cell lie within a bound, which it computes from the table, and strikes what does not.
 pub record Rule : Type 0 where
@@ -45,12 +78,12 @@ unfoldable pub rules1 : Sheet → List Rule
 rules1 s = boardsOf s (λ p. lies p p (λ t. E))
 
 unfoldable pub rules2 : Sheet → List Rule
-rules2 s = boardsOf s (λ p. boardsOf s (λ q. lies q p (λ t. converse (cell (s .boards) t p q))))
+rules2 s = boardsOf s (λ p. boardsOf s (λ q. lies q p (λ t. converse (at s t p q))))
 
 unfoldable pub rules3 : Sheet → List Rule
 rules3 s =
     boardsOf s (λ p. boardsOf s (λ q. boardsOf s (λ r.
-    lies p r (λ t. compose (cell (s .boards) t p q) (cell (s .boards) t q r)))))
+    lies p r (λ t. compose (at s t p q) (at s t q r)))))
 
 unfoldable pub rules4 : Sheet → List Rule
 rules4 s = flatMap (λ l. lies (l .p) (l .q) (λ t. l .allowed)) (s .lines)
@@ -63,13 +96,13 @@ rules5 s =
 unfoldable pub rules6 : Sheet → List Rule
 rules6 s =
     kindsOf s (λ k. boardsOf s (λ z.
-    lies (k .p) z (λ t. bound6 (s .boards) t k z) ++ waysOf k (λ i. lies (way k i) z (λ t. bound6′ (s .boards) t k i z))))
+    lies (k .p) z (λ t. bound6 s t k z) ++ waysOf k (λ i. lies (way k i) z (λ t. bound6′ s t k i z))))
 
 unfoldable pub rules7 : Sheet → List Rule
 rules7 s =
     kindsOf s (λ k. kindsOf s (λ l.
-    lies (k .p) (l .p) (λ t. bound7 (s .boards) t k l)
-    ++ only (agree k l) (waysOf k (λ i. lies (way k i) (way l i) (λ t. bound7′ (s .boards) t k l)))))
+    lies (k .p) (l .p) (λ t. bound7 s t k l)
+    ++ only (agree k l) (waysOf k (λ i. lies (way k i) (way l i) (λ t. bound7′ s t k l)))))
 
 unfoldable pub rules : Sheet → List Rule
 rules s = rules1 s ++ (rules2 s ++ (rules3 s ++ (rules4 s ++ (rules5 s ++ (rules6 s ++ rules7 s)))))

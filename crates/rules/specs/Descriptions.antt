@@ -98,19 +98,29 @@ section line zero [] = good []
 section line zero (w ∷ ws) = refused 3
 section line (suc n) ws = next (line ws) (λ l. next (section line n (l .rest)) (λ ls. good (l .line ∷ ls)))
 
--- The header: the numbers of boards, relation lines and kind lines, the offsets of the two sections, the total number of words.
--- Refusals come in the order 1, 2, then the first faulty line.
+-- The header's six words: the numbers of boards, relation lines and kind lines, the offsets of the two sections, the total number of words.
+-- 1 is for fewer words, or a number out of range.
+unfoldable pub numbersFit : List ℕ → Bool
+numbersFit ws =
+    leb 6 (length ws) && (leb 1 (getD ws 0 0) && leb (getD ws 0 0) mostBoards) && leb (getD ws 1 0) mostLines && leb (getD ws 2 0) mostKinds
+
+-- 2 is for a relation offset not 6, a kind offset below 6 or above the total, a total not the number of words lent.
+unfoldable pub offsetsFit : List ℕ → Bool
+offsetsFit ws = eqb (getD ws 3 0) 6 && (leb 6 (getD ws 4 0) && leb (getD ws 4 0) (getD ws 5 0)) && eqb (getD ws 5 0) (length ws)
+
+-- the two sections
+unfoldable pub relationLines : List ℕ → Reading (List RelationLine)
+relationLines ws = section (relationLine (getD ws 0 0)) (getD ws 1 0) (take (getD ws 4 0 - 6) (drop 6 ws))
+
+unfoldable pub kindLines : List ℕ → Reading (List KindLine)
+kindLines ws = section (kindLine (getD ws 0 0)) (getD ws 2 0) (drop (getD ws 4 0) ws)
+
+-- The meaning of a description, or its first refusal: 1, 2, then the first faulty line.
 unfoldable pub read : List ℕ → Reading Sheet
 read ws =
-    let v = getD ws 0 0 in
-    let lines = getD ws 1 0 in
-    let kinds = getD ws 2 0 in
-    let kindsAt = getD ws 4 0 in
-    let words = getD ws 5 0 in
-    need 1 (leb 6 (length ws) && (leb 1 v && leb v mostBoards) && leb lines mostLines && leb kinds mostKinds)
-    (need 2 (eqb (getD ws 3 0) 6 && (leb 6 kindsAt && leb kindsAt words) && eqb words (length ws))
-    (next (section (relationLine v) lines (take (kindsAt - 6) (drop 6 ws)))
-    (λ ls. next (section (kindLine v) kinds (drop kindsAt ws)) (λ ks. good (record { boards = v; lines = ls; kinds = ks })))))
+    need 1 (numbersFit ws)
+    (need 2 (offsetsFit ws)
+    (next (relationLines ws) (λ ls. next (kindLines ws) (λ ks. good (record { boards = getD ws 0 0; lines = ls; kinds = ks })))))
 
 -- what the words of a good description come to
 pub record WellFormed (s : Sheet) : Type 0 where

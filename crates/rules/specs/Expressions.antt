@@ -1,6 +1,6 @@
 -- Expressions in prefix order (01, 'The description'): their meaning, and when they are refused.
 -- Assumes nothing.
-use mathlib.Core.List.{List, [], _∷_}
+use mathlib.Core.List.{List, [], _∷_, _++_}
 use Prim.Native.Nat.{ℕ, zero, suc}
 use lib.ListN.{length, getD}
 use Rattle.rules.specs.Relations.{E, A, B, S, join, meet, complement, converse}
@@ -44,3 +44,29 @@ evaluate (suc n) (w ∷ ws) = follow (λ left. evaluate n left) (code w) ws
 -- The expression must use its whole length and no more: its set, with no word after it.
 unfoldable pub expression : List ℕ → Value
 expression ws = evaluate (length ws) ws
+
+-- An expression as a person reads it, the words that write it, and the set that it stands for: what `expression` is shown to agree with.
+pub data Tree : Type 0 where
+  same above below side : Tree
+  or and : Tree → Tree → Tree
+  not inv : Tree → Tree
+
+unfoldable pub written : Tree → List ℕ
+written same = 0 ∷ []
+written above = 1 ∷ []
+written below = 2 ∷ []
+written side = 3 ∷ []
+written (or a b) = 4 ∷ (written a ++ written b)
+written (and a b) = 5 ∷ (written a ++ written b)
+written (not a) = 6 ∷ written a
+written (inv a) = 7 ∷ written a
+
+unfoldable pub denoted : Tree → ℕ
+denoted same = E
+denoted above = A
+denoted below = B
+denoted side = S
+denoted (or a b) = join (denoted a) (denoted b)
+denoted (and a b) = meet (denoted a) (denoted b)
+denoted (not a) = complement (denoted a)
+denoted (inv a) = converse (denoted a)

@@ -21,12 +21,24 @@ abbrev pub countBelow : ℕ → (ℕ → Bool) → ℕ
 countBelow zero f = 0
 countBelow (suc n) f = elim (f n) [ true ↦ suc (countBelow n f) | false ↦ countBelow n f ]
 
--- Exactly one of these holds between boards p and q: E (same board), A (p strictly above q), B (p strictly below q), S (side). Relation r is a
--- number below this one: 0 is E, 1 is A, 2 is B, 3 is S.
+-- For boards p and q exactly one of these holds: E (same board), A (p strictly above q), B (p strictly below q), S (side: neither same, above nor
+-- below). A relation is a number below this one.
 unfoldable pub relations : ℕ
 relations = 4
 
--- Sets of relations are numbers below this one. Digit r says whether relation r is a member, so E = 1, A = 2, B = 4, S = 8, added.
+abbrev pub same : ℕ
+same = 0
+
+abbrev pub above : ℕ
+above = 1
+
+abbrev pub below : ℕ
+below = 2
+
+abbrev pub side : ℕ
+side = 3
+
+-- Sets of relations are numbers below this one: E = 1, A = 2, B = 4, S = 8, added. So digit r says whether relation r is a member.
 abbrev pub sets : ℕ
 sets = 2 ^ relations
 
@@ -46,6 +58,10 @@ S = 8
 unfoldable pub has : ℕ → ℕ → Bool
 has x zero = eqb (x % 2) 1
 has x (suc r) = has (x / 2) r
+
+-- relation r is no member of x
+abbrev pub Lacks : ℕ → ℕ → Type 0
+Lacks x r = T (not (has x r))
 
 abbrev pub digit : Bool → ℕ
 digit true = 1

@@ -35,16 +35,18 @@ later n (none m) = none (n + m)
 abbrev pub proceed : (List ℕ → End) → List ℕ → End
 proceed go u = elim (emptied u) [ true ↦ none 0 | false ↦ go u ]
 
+-- a try, and what follows if it fails
+abbrev pub orElse : End → End → End
+orElse (found n w) rest = found (suc n) w
+orElse (none n) rest = later (suc n) rest
+
 module _ (clo : List ℕ → List ℕ) where
   -- Try the relations of cell k in the order given: a try narrows the cell to one relation and closes. If this is contradictory or all below
   -- it fails, go to the next relation.
   unfoldable pub attempt : (List ℕ → End) → ℕ → List ℕ → List ℕ → End
   attempt go k t [] = none 0
   attempt go k t (r ∷ rs) =
-      elim (has (getD t k 0) r) [
-        | false ↦ attempt go k t rs
-        | true ↦ elim (proceed go (clo (set t k (2 ^ r)))) [ found n w ↦ found (suc n) w | none n ↦ later (suc n) (attempt go k t rs) ]
-      ]
+      let rest = attempt go k t rs in elim (has (getD t k 0) r) [ true ↦ orElse (proceed go (clo (set t k (2 ^ r)))) rest | false ↦ rest ]
 
   -- Take the first of these places whose cell has several relations; if every cell is single, that is the arrangement. The places before are
   -- single already, and stay so.

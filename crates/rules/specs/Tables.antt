@@ -7,9 +7,14 @@ use Prim.Native.Nat.{ℕ, zero, suc, _+_, _*_, _<_}
 use lib.Dec.{eqb}
 use lib.ListN.{length, getD}
 use Rattle.rules.specs.Relations.{sets, _⊆_, size}
+use Rattle.rules.specs.Descriptions.{Sheet}
 
 abbrev pub cell : ℕ → List ℕ → ℕ → ℕ → ℕ
 cell v t p q = getD t (v * p + q) 0
+
+-- cell (p, q) of a description's table
+abbrev pub at : Sheet → List ℕ → ℕ → ℕ → ℕ
+at s t p q = cell (s .boards) t p q
 
 -- a well-formed table
 pub record Table (v : ℕ) (t : List ℕ) : Type 0 where

@@ -1,0 +1,175 @@
+-- Words mean a set exactly if they write an expression that stands for it; and how many words an evaluation is allowed makes no difference, once
+-- they are enough. Assumes nothing.
+use mathlib.Core.Path.{_≡_, refl, sym, ap, ap₂, _∙_}
+use mathlib.Core.List.{List, [], _∷_, _++_, append-assoc, append-nil}
+use Prim.Native.Nat.{ℕ, zero, suc, _+_, _≤_, _<_}
+use native.Mathlib.Nat.{not-suc-le-zero, le-of-suc-le-suc, le-refl}
+use native.Mathlib.Omega.{arith}
+use lib.ListN.{length, length-append}
+use Rattle.rules.specs.Relations.{E, A, B, S, join, meet, complement, converse}
+use Rattle.rules.specs.Expressions.{Code, relation, two, one, unknown, codes, code, Value, value, malformed, andThen, follow, evaluate, expression, Tree, same, above, below, side, or, and, not, inv, written, denoted}
+
+-- ---- words that write an expression mean what it stands for
+
+binary : (n : ℕ) (f : ℕ → ℕ → ℕ) (ws more rest : List ℕ) (x y : ℕ) → evaluate n ws ≡ value x more → evaluate n more ≡ value y rest
+    → follow (λ left. evaluate n left) (two f) ws ≡ value (f x y) rest
+unfolding follow
+binary n f ws more rest x y p q =
+    ap (λ (v : Value). andThen v (λ x more. andThen (evaluate n more) (λ y rest. value (f x y) rest))) p
+    ∙ ap (λ (v : Value). andThen v (λ y rest. value (f x y) rest)) q
+
+unary : (n : ℕ) (f : ℕ → ℕ) (ws rest : List ℕ) (x : ℕ) → evaluate n ws ≡ value x rest → follow (λ left. evaluate n left) (one f) ws ≡ value (f x) rest
+unfolding follow
+unary n f ws rest x p = ap (λ (v : Value). andThen v (λ x rest. value (f x) rest)) p
+
+-- where at least one word is allowed, there is one before
+allowed : (P : ℕ → Type 0) (k n : ℕ) → suc k ≤ n → ((m : ℕ) → k ≤ m → P (suc m)) → P n
+allowed P k zero h f = absurd (not-suc-le-zero h)
+allowed P k (suc n) h f = f n (le-of-suc-le-suc h)
+
+-- the operands of two, one after the other
+first : (a b : Tree) (rest : List ℕ) (n : ℕ) → length (written a ++ written b) ≤ n
+    → (length (written a) ≤ n → evaluate n (written a ++ (written b ++ rest)) ≡ value (denoted a) (written b ++ rest))
+    → evaluate n ((written a ++ written b) ++ rest) ≡ value (denoted a) (written b ++ rest)
+first a b rest n h f = rw append-assoc (f (omega (arith, length-append (written a) (written b))))
+
+second : (a b : Tree) (rest : List ℕ) (n : ℕ) → length (written a ++ written b) ≤ n
+    → (length (written b) ≤ n → evaluate n (written b ++ rest) ≡ value (denoted b) rest) → evaluate n (written b ++ rest) ≡ value (denoted b) rest
+second a b rest n h f = f (omega (arith, length-append (written a) (written b)))
+
+written-evaluate : (e : Tree) (rest : List ℕ) (n : ℕ) → length (written e) ≤ n → evaluate n (written e ++ rest) ≡ value (denoted e) rest
+unfolding evaluate code codes written denoted follow
+written-evaluate same rest n h = allowed (λ n. evaluate n (0 ∷ rest) ≡ value E rest) 0 n h (λ m g. refl)
+written-evaluate above rest n h = allowed (λ n. evaluate n (1 ∷ rest) ≡ value A rest) 0 n h (λ m g. refl)
+written-evaluate below rest n h = allowed (λ n. evaluate n (2 ∷ rest) ≡ value B rest) 0 n h (λ m g. refl)
+written-evaluate side rest n h = allowed (λ n. evaluate n (3 ∷ rest) ≡ value S rest) 0 n h (λ m g. refl)
+written-evaluate (or a b) rest n h =
+    allowed (λ n. evaluate n (4 ∷ ((written a ++ written b) ++ rest)) ≡ value (join (denoted a) (denoted b)) rest) (length (written a ++ written b)) n h
+    (λ m g. binary m join _ _ rest (denoted a) (denoted b) (first a b rest m g (written-evaluate a (written b ++ rest) m))
+    (second a b rest m g (written-evaluate b rest m)))
+written-evaluate (and a b) rest n h =
+    allowed (λ n. evaluate n (5 ∷ ((written a ++ written b) ++ rest)) ≡ value (meet (denoted a) (denoted b)) rest) (length (written a ++ written b)) n h
+    (λ m g. binary m meet _ _ rest (denoted a) (denoted b) (first a b rest m g (written-evaluate a (written b ++ rest) m))
+    (second a b rest m g (written-evaluate b rest m)))
+written-evaluate (not a) rest n h =
+    allowed (λ n. evaluate n (6 ∷ (written a ++ rest)) ≡ value (complement (denoted a)) rest) (length (written a)) n h
+    (λ m g. unary m complement (written a ++ rest) rest (denoted a) (written-evaluate a rest m g))
+written-evaluate (inv a) rest n h =
+    allowed (λ n. evaluate n (7 ∷ (written a ++ rest)) ≡ value (converse (denoted a)) rest) (length (written a)) n h
+    (λ m g. unary m converse (written a ++ rest) rest (denoted a) (written-evaluate a rest m g))
+
+-- ---- words that mean a set write an expression that stands for it
+
+-- the expression that the words before rest write, and that stands for x
+pub record Reads (ws : List ℕ) (x : ℕ) (rest : List ℕ) : Type 0 where
+  pub tree : Tree
+  pub words : ws ≡ written tree ++ rest
+  pub stands : denoted tree ≡ x
+
+-- what an operator with two operands came to
+record Both (n : ℕ) (f : ℕ → ℕ → ℕ) (ws : List ℕ) (x : ℕ) (rest : List ℕ) : Type 0 where
+  more : List ℕ
+  y : ℕ
+  z : ℕ
+  fst : evaluate n ws ≡ value y more
+  snd : evaluate n more ≡ value z rest
+  both : f y z ≡ x
+
+record Single (n : ℕ) (f : ℕ → ℕ) (ws : List ℕ) (x : ℕ) (rest : List ℕ) : Type 0 where
+  y : ℕ
+  fst : evaluate n ws ≡ value y rest
+  whole : f y ≡ x
+
+never : {X : Type 0} (x : ℕ) (rest : List ℕ) → malformed ≡ value x rest → X
+never x rest p = let z : _≡_ {A = ℕ} 0 1 = cc in let y : ⊥ = omega arith in absurd y
+
+both-out : (n : ℕ) (f : ℕ → ℕ → ℕ) (ws : List ℕ) (x : ℕ) (rest : List ℕ) → follow (λ left. evaluate n left) (two f) ws ≡ value x rest
+    → Both n f ws x rest
+unfolding follow
+both-out n f ws x rest p = go (evaluate n ws) refl p
+  where
+    go : (v : Value) → evaluate n ws ≡ v → andThen v (λ y more. andThen (evaluate n more) (λ z rest. value (f y z) rest)) ≡ value x rest → Both n f ws x rest
+    go malformed e q = never x rest q
+    go (value y more) e q = next (evaluate n more) refl q
+      where
+        next : (u : Value) → evaluate n more ≡ u → andThen u (λ z rest. value (f y z) rest) ≡ value x rest → Both n f ws x rest
+        next malformed d r = never x rest r
+        next (value z last) d r =
+            let l : last ≡ rest = cc in
+            record { more = more; y = y; z = z; fst = e; snd = d ∙ ap (value z) l; both = cc }
+
+single-out : (n : ℕ) (f : ℕ → ℕ) (ws : List ℕ) (x : ℕ) (rest : List ℕ) → follow (λ left. evaluate n left) (one f) ws ≡ value x rest
+    → Single n f ws x rest
+unfolding follow
+single-out n f ws x rest p = go (evaluate n ws) refl p
+  where
+    go : (v : Value) → evaluate n ws ≡ v → andThen v (λ y rest. value (f y) rest) ≡ value x rest → Single n f ws x rest
+    go malformed e q = never x rest q
+    go (value y last) e q = let l : last ≡ rest = cc in record { y = y; fst = e ∙ ap (value y) l; whole = cc }
+
+in-turn : (t u : Tree) {ws more : List ℕ} (rest : List ℕ) → ws ≡ written t ++ more → more ≡ written u ++ rest → ws ≡ (written t ++ written u) ++ rest
+in-turn t u rest p q = p ∙ ap (λ (l : List ℕ). written t ++ l) q ∙ sym (append-assoc (written t) (written u) rest)
+
+evaluate-written : (n : ℕ) (ws : List ℕ) (x : ℕ) (rest : List ℕ) → evaluate n ws ≡ value x rest → Reads ws x rest
+unfolding evaluate code codes follow written denoted
+evaluate-written zero ws x rest p = never x rest p
+evaluate-written (suc n) [] x rest p = never x rest p
+evaluate-written (suc n) (zero ∷ ws) x rest p = record { tree = same; words = ap (λ (l : List ℕ). 0 ∷ l) (cc); stands = cc }
+evaluate-written (suc n) (suc zero ∷ ws) x rest p = record { tree = above; words = ap (λ (l : List ℕ). 1 ∷ l) (cc); stands = cc }
+evaluate-written (suc n) (suc (suc zero) ∷ ws) x rest p = record { tree = below; words = ap (λ (l : List ℕ). 2 ∷ l) (cc); stands = cc }
+evaluate-written (suc n) (suc (suc (suc zero)) ∷ ws) x rest p = record { tree = side; words = ap (λ (l : List ℕ). 3 ∷ l) (cc); stands = cc }
+evaluate-written (suc n) (suc (suc (suc (suc zero))) ∷ ws) x rest p =
+    let b = both-out n join ws x rest p in
+    let t = evaluate-written n ws (b .y) (b .more) (b .fst) in
+    let u = evaluate-written n (b .more) (b .z) rest (b .snd) in
+    record {
+      tree = or (t .tree) (u .tree);
+      words = ap (λ (l : List ℕ). 4 ∷ l) (in-turn (t .tree) (u .tree) rest (t .words) (u .words));
+      stands = ap₂ join (t .stands) (u .stands) ∙ b .both;
+    }
+evaluate-written (suc n) (suc (suc (suc (suc (suc zero)))) ∷ ws) x rest p =
+    let b = both-out n meet ws x rest p in
+    let t = evaluate-written n ws (b .y) (b .more) (b .fst) in
+    let u = evaluate-written n (b .more) (b .z) rest (b .snd) in
+    record {
+      tree = and (t .tree) (u .tree);
+      words = ap (λ (l : List ℕ). 5 ∷ l) (in-turn (t .tree) (u .tree) rest (t .words) (u .words));
+      stands = ap₂ meet (t .stands) (u .stands) ∙ b .both;
+    }
+evaluate-written (suc n) (suc (suc (suc (suc (suc (suc zero))))) ∷ ws) x rest p =
+    let b = single-out n complement ws x rest p in
+    let t = evaluate-written n ws (b .y) rest (b .fst) in
+    record { tree = not (t .tree); words = ap (λ (l : List ℕ). 6 ∷ l) (t .words); stands = ap complement (t .stands) ∙ b .whole }
+evaluate-written (suc n) (suc (suc (suc (suc (suc (suc (suc zero)))))) ∷ ws) x rest p =
+    let b = single-out n converse ws x rest p in
+    let t = evaluate-written n ws (b .y) rest (b .fst) in
+    record { tree = inv (t .tree); words = ap (λ (l : List ℕ). 7 ∷ l) (t .words); stands = ap converse (t .stands) ∙ b .whole }
+evaluate-written (suc n) (suc (suc (suc (suc (suc (suc (suc (suc w))))))) ∷ ws) x rest p = never x rest p
+
+-- ---- what an expression means
+
+-- words are read as the set x exactly if they write an expression that stands for it
+pub expression-written : (ws : List ℕ) (x : ℕ) → expression ws ≡ value x [] → (e : Tree) × (written e ≡ ws) × (denoted e ≡ x)
+unfolding expression
+expression-written ws x p =
+    let r = evaluate-written (length ws) ws x [] p in (r .tree, sym (r .words ∙ append-nil (written (r .tree))), r .stands)
+
+pub written-expression : (e : Tree) → expression (written e) ≡ value (denoted e) []
+unfolding expression
+written-expression e =
+    ap (evaluate (length (written e))) (sym (append-nil (written e))) ∙ written-evaluate e [] (length (written e)) (le-refl (length (written e)))
+
+kept : (n m : ℕ) (ws : List ℕ) (x : ℕ) (rest : List ℕ) → evaluate n ws ≡ value x rest → length ws ≤ m → evaluate m ws ≡ value x rest
+kept n m ws x rest p h =
+    let r = evaluate-written n ws x rest p in
+    let l : length (written (r .tree)) ≤ m = omega (arith, ap length (r .words), length-append (written (r .tree)) rest) in
+    ap (evaluate m) (r .words) ∙ written-evaluate (r .tree) rest m l ∙ ap (λ (y : ℕ). value y rest) (r .stands)
+
+-- how many words are allowed makes no difference, once they are enough
+pub evaluate-enough : (n m : ℕ) (ws : List ℕ) → length ws ≤ n → length ws ≤ m → evaluate n ws ≡ evaluate m ws
+evaluate-enough n m ws h k = go (evaluate n ws) (evaluate m ws) refl refl
+  where
+    go : (u v : Value) → evaluate n ws ≡ u → evaluate m ws ≡ v → u ≡ v
+    go (value x rest) v p q = sym (kept n m ws x rest p k) ∙ q
+    go malformed (value x rest) p q = sym p ∙ kept m n ws x rest q h
+    go malformed malformed p q = refl

@@ -1,20 +1,19 @@
 -- An arrangement is exactly a closed table of single relations, so closing loses none. Assumes nothing.
-use mathlib.Core.Path.{_≡_, refl, sym, ap, _∙_, subst}
-use mathlib.Core.Bool.{Bool, true, false, not}
+use mathlib.Core.Path.{_≡_, sym, ap, _∙_, subst}
+use mathlib.Core.Bool.{Bool, not}
 use mathlib.Core.Logic.{_⊎_, inl, inr, ⊎-elim, _↔_}
 use mathlib.Core.List.{List, List·Memᴰ}
-use Prim.Native.Nat.{ℕ, _*_, _+_, _^_, _<_}
+use Prim.Native.Nat.{ℕ, _^_, _<_}
 use native.Mathlib.Omega.{arith}
 use lib.Dec.{T, eqb, eqb→eq, T-not, not-T}
-use Rattle.rules.specs.Relations.{someBelow, relations, same, above, side, E, A, S, has, Lacks, join, _⊆_, opposite, converse, compose}
-use Rattle.rules.specs.Descriptions.{RelationLine, KindLine, Sheet, WellFormed}
+use Rattle.rules.specs.Relations.{someBelow, relations, same, above, side, E, A, has, Lacks, join, _⊆_}
+use Rattle.rules.specs.Descriptions.{KindLine, Sheet, WellFormed}
 use Rattle.rules.specs.Tables.{Table, Inside, at}
 use Rattle.rules.specs.Arrangements.{way, width, Alike, Arrangement}
 use Rattle.rules.specs.Closed.{Misses, Closed, Largest}
 use Rattle.rules.specs.Closing.{reaches, agree}
-use Rattle.rules.proofs.Sets.{T-decide, T-not-not, or-T-left, or-T-right, T-or, some-in, some-out, has-single, single-has, ⊆-refl, single-⊆, join-in}
-use Rattle.rules.proofs.Composition.{opposite-small, converse-single}
-use Rattle.rules.proofs.Rules.{relations-pos, misses-not, not-misses, agree-alike, alike-agree, T-differ}
+use Rattle.rules.proofs.Sets.{T-decide, T-not-not, or-T-left, or-T-right, T-or, some-in, some-out, has-single, single-has, ⊆-eq, single-⊆, join-in}
+use Rattle.rules.proofs.Rules.{relations-pos, not-misses, agree-alike, alike-agree, T-differ}
 
 -- ---- single relations
 
@@ -25,9 +24,6 @@ One x = (r : ℕ) × (r < relations) × (x ≡ 2 ^ r)
 -- every cell is a single relation
 abbrev pub Singles : Sheet → List ℕ → Type 0
 Singles s t = (p q : ℕ) → p < s .boards → q < s .boards → One (at s t p q)
-
-⊆-eq : {x y : ℕ} → x ≡ y → x ⊆ y
-⊆-eq {x} e = subst (λ (y : ℕ). x ⊆ y) e (⊆-refl x)
 
 pub one-has : {x : ℕ} → One x → (r : ℕ) → T (has x r) → x ≡ 2 ^ r
 one-has {x} o r t = o .2 ∙ ap (λ (n : ℕ). 2 ^ n) (sym (single-has (o .0) r (subst (λ (y : ℕ). T (has y r)) (o .2) t)))
@@ -102,7 +98,7 @@ module _ {s : Sheet} (f : WellFormed s) where
     arrangement-closed =
         record {
           rule1 = λ p h. ⊆-eq (a .rule1 p h);
-          rule2 = λ p q h l. ⊆-eq (a .rule2 p q h l);
+          rule2 = a .rule2;
           rule3 = a .rule3;
           rule4 = a .rule4;
           rule5 = λ k m i h. ⊆-eq (a .rule5 k m i h);
@@ -117,12 +113,6 @@ module _ {s : Sheet} (f : WellFormed s) where
   -- ---- a closed table of single relations is an arrangement
 
   module _ {t : List ℕ} (h : Table (s .boards) t) (c : Closed s t) (o : Singles s t) where
-    turned : (p q : ℕ) → p < s .boards → q < s .boards → at s t q p ≡ converse (at s t p q)
-    turned p q hp hq =
-        let r = o p q hp hq in
-        let e : converse (at s t p q) ≡ 2 ^ opposite (r .0) = ap converse (r .2) ∙ converse-single (r .0) (r .1) in
-        one-within (o q p hq hp) (opposite (r .0)) (subst (λ (x : ℕ). at s t q p ⊆ x) e (c .rule2 p q hp hq)) ∙ sym e
-
     fed-by : (k : KindLine) → List·Memᴰ k (s .kinds) → (z : ℕ) → z < s .boards → at s t (k .p) z ≡ A
         → (i : ℕ) × (i < width k) × ((at s t (way k i) z ≡ E) ⊎ (at s t (way k i) z ≡ A))
     fed-by k m z hz e = ⊎-elim some none (T-decide (someBelow (width k) reached))
@@ -171,7 +161,7 @@ module _ {s : Sheet} (f : WellFormed s) where
           table = h;
           single = o;
           rule1 = λ p hp. one-within (o p p hp hp) same (c .rule1 p hp);
-          rule2 = turned;
+          rule2 = c .rule2;
           rule3 = c .rule3;
           rule4 = c .rule4;
           rule5 = λ k m i hi. one-within (o (k .p) (way k i) (panel k m) (fed k m i hi)) above (c .rule5 k m i hi);

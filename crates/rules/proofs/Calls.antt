@@ -1,25 +1,25 @@
 -- The tests of the calls say what they are named after: a well-formed table, an arrangement; and what a closing strikes is at most 768.
 -- Assumes nothing.
 use mathlib.Core.Path.{_≡_, refl, sym, ap, _∙_, subst}
-use mathlib.Core.Bool.{Bool, true, false, not, _&&_}
+use mathlib.Core.Bool.{Bool, true, false, not}
 use mathlib.Core.Logic.{⊎-elim}
 use mathlib.Core.List.{List, [], _∷_, List·Memᴰ·head, List·Memᴰ·tail, List·Memᴰ·not-nil, List·Memᴰ·cases-cons}
-use Prim.Native.Nat.{ℕ, zero, suc, _+_, _-_, _*_, _^_, _≤_, _<_}
+use Prim.Native.Nat.{ℕ, zero, suc, _+_, _*_, _≤_, _<_}
 use native.Mathlib.Nat.{not-suc-le-zero, mul-le-mul, mul-suc}
 use native.Mathlib.Omega.{arith}
 use lib.Dec.{T, eqb, ltb, eqb→eq, eqb-refl, ltb→lt, lt→ltb, nltb→le}
 use lib.Pow.{pow-pos}
 use lib.ListN.{length, getD, List·getD-eq-default}
-use Rattle.rules.specs.Relations.{countBelow, relations, sets, has, size, within, _⊆_}
+use Rattle.rules.specs.Relations.{countBelow, relations, sets, has, size, within}
 use Rattle.rules.specs.Descriptions.{mostBoards, Sheet, WellFormed}
 use Rattle.rules.specs.Tables.{Table, Inside, cell, at, emptied, total}
 use Rattle.rules.specs.Arrangements.{Arrangement}
 use Rattle.rules.specs.Closed.{strikes}
 use Rattle.rules.specs.Closing.{Rule, Idle, rules}
 use Rattle.rules.specs.Calls.{setsOnly, wellFormed, singlesOnly, idle, arranged}
-use Rattle.rules.proofs.Sets.{true-T, T-true, and-T, T-and-left, T-and-right, T-decide, within-⊆, ⊆-within, size-one, size-single, size-pos, some-member}
+use Rattle.rules.proofs.Sets.{true-T, and-T, T-and-left, T-and-right, T-decide, within-⊆, ⊆-within, size-one, size-single, size-pos, some-member}
 use Rattle.rules.proofs.Members.{All}
-use Rattle.rules.proofs.Inside.{in-range, emptied-in}
+use Rattle.rules.proofs.Inside.{in-range, total-mono}
 use Rattle.rules.proofs.Rules.{closed-idle, idle-closed}
 use Rattle.rules.proofs.Largest.{place}
 use Rattle.rules.proofs.Arrangements.{Singles, arrangement-closed, closed-arrangement}
@@ -114,7 +114,7 @@ module _ {s : Sheet} (f : WellFormed s) {t : List ℕ} where
   pub arranged-arrangement : Table (s .boards) t → T (arranged s t) → Arrangement s t
   unfolding arranged
   arranged-arrangement h g =
-      closed-arrangement f h (idle-closed s t (idle-out (s .boards) t (rules s) (T-and-right (singlesOnly t) (idle (s .boards) t (rules s)) g))) single
+      closed-arrangement f h (idle-closed s t h (idle-out (s .boards) t (rules s) (T-and-right (singlesOnly t) (idle (s .boards) t (rules s)) g))) single
     where
       single : Singles s t
       single p q hp hq =
@@ -149,6 +149,10 @@ total-least (x ∷ xs) h e = go (eqb x 0) refl e (λ g. total-least xs (λ k. h 
     go false d e f =
         let m = some-member (h 0) (λ z. subst T d (subst (λ (y : ℕ). T (eqb y 0)) (sym z) tt)) in
         omega (arith, f e, size-pos x (m .0) (m .1) (m .2))
+
+-- the strikes are what the closed table has less
+pub strikes-counted : {t u : List ℕ} → Inside u t → strikes t u + total u ≡ total t
+strikes-counted i = omega (arith, total-mono i)
 
 -- a closing that is not contradictory leaves a relation in each cell, so it strikes at most 3 times 16 times 16 relations
 pub strikes-most : {v : ℕ} {t u : List ℕ} → v ≤ mostBoards → Table v t → Table v u → T (not (emptied u)) → strikes t u ≤ 768

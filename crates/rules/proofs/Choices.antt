@@ -3,12 +3,12 @@
 use mathlib.Core.Path.{_≡_, refl, sym, ap, _∙_, subst}
 use mathlib.Core.Bool.{Bool, true, false, not}
 use mathlib.Core.Logic.{_⊎_, inl, inr, ⊎-elim}
-use mathlib.Core.List.{List, [], _∷_, flatMap, List·Memᴰ, List·Memᴰ·head, List·Memᴰ·tail, List·Memᴰ·not-nil, List·Memᴰ·cases-cons}
-use Prim.Native.Nat.{ℕ, zero, suc, _+_, _*_, _^_, _≤_, _<_}
-use native.Mathlib.Nat.{not-suc-le-zero, le-antisymm}
+use mathlib.Core.List.{List, [], _∷_, List·Memᴰ, List·Memᴰ·head, List·Memᴰ·tail, List·Memᴰ·not-nil, List·Memᴰ·cases-cons}
+use Prim.Native.Nat.{ℕ, suc, _+_, _*_, _^_, _≤_, _<_}
+use native.Mathlib.Nat.{le-antisymm}
 use native.Mathlib.Omega.{arith}
 use lib.Pow.{pow-pos}
-use lib.Dec.{T, eqb, ltb, ltb→lt, lt→ltb, nltb→le, T-not, not-T}
+use lib.Dec.{T, ltb, ltb→lt, lt→ltb, nltb→le, T-not, not-T}
 use lib.ListN.{length, getD, set, length-set}
 use lib.Seq.{getD-set-same}
 use Rattle.rules.specs.Relations.{relations, sets, E, has, size, _⊆_, converse, opposite}
@@ -17,7 +17,7 @@ use Rattle.rules.specs.Tables.{Table, Inside, at, emptied, upTo}
 use Rattle.rules.specs.Arrangements.{Arrangement}
 use Rattle.rules.specs.Closed.{Closed, Largest}
 use Rattle.rules.specs.Search.{Order, End, found, none, later, proceed, orElse, attempt, choose, places, search, rank, Before}
-use Rattle.rules.proofs.Sets.{true-T, T-true, T-decide, has-single, single-has, ⊆-refl, ⊆-trans, ⊆-zero, ⊆-one, single-⊆, single-small, ⊆-single, size-mono, size-tight, size-single, size-one, size-pos, some-member, has-small}
+use Rattle.rules.proofs.Sets.{true-T, T-decide, has-single, ⊆-refl, ⊆-trans, ⊆-one, single-⊆, single-small, ⊆-single, size-mono, size-tight, size-single, size-one, size-pos, some-member, has-small}
 use Rattle.rules.proofs.Composition.{opposite-small, converse-single}
 use Rattle.rules.proofs.Members.{All, all-none, all-one, over-all, all-over, upTo-in, upTo-out}
 use Rattle.rules.proofs.Inside.{in-range, inside-refl, inside-trans, emptied-in, emptied-out, emptied-inside}
@@ -143,12 +143,7 @@ module _ {s : Sheet} (f : WellFormed s) {clo : List ℕ → List ℕ} (closes : 
     lower p q h hp =
         let o = upper q p h hp in
         let hq : q < s .boards = omega arith in
-        let c : at s t p q ⊆ 2 ^ opposite (o .0) =
-        subst (λ (x : ℕ). at s t p q ⊆ x) (ap converse (o .2) ∙ converse-single (o .0) (o .1)) (r .closed .rule2 q p hq hp) in (
-          opposite (o .0),
-          opposite-small (o .0) (o .1),
-          ⊆-one (opposite (o .0)) (r .table .small (s .boards * p + q)) (opposite-small (o .0) (o .1)) c (filled p q hp hq),
-        )
+        (opposite (o .0), opposite-small (o .0) (o .1), r .closed .rule2 q p hq hp ∙ ap converse (o .2) ∙ converse-single (o .0) (o .1))
 
     middle : (p q : ℕ) → p ≡ q → p < s .boards → One (at s t p q)
     middle p q e hp =

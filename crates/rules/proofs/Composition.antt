@@ -1,11 +1,11 @@
 -- Composition and converse of sets: E is neutral, the converse of a composition, monotone in both arguments, the empty set. Monotony is by
 -- membership; the equations are each one test that antt computes over all sets or pairs of sets. Assumes nothing.
-use mathlib.Core.Path.{_≡_, refl, sym, ap, _∙_, subst}
-use mathlib.Core.Bool.{Bool, true, false, _&&_}
-use Prim.Native.Nat.{ℕ, zero, suc, _+_, _*_, _^_, _≤_, _<_}
+use mathlib.Core.Path.{_≡_, refl, subst}
+use mathlib.Core.Bool.{Bool, _&&_}
+use Prim.Native.Nat.{ℕ, _^_, _<_}
 use lib.Dec.{T, eqb, ltb, eqb→eq, ltb→lt}
 use Rattle.rules.specs.Relations.{someBelow, eachBelow, relations, sets, E, has, setTo, setOf, opposite, converse, singles, composed, compose, _⊆_}
-use Rattle.rules.proofs.Sets.{and-T, T-and-left, T-and-right, some-in, some-out, each-at, has-zero, setOf-small, setOf-in, setOf-out, ⊆-antisym, ⊆-zero, single-small}
+use Rattle.rules.proofs.Sets.{and-T, T-and-left, T-and-right, some-in, some-out, each-at, has-zero, setOf-small, setOf-in, setOf-out, ⊆-zero}
 
 -- a test that passes at each set below n passes at x
 at : (f : ℕ → Bool) → T (eachBelow sets f) → (x : ℕ) → x < sets → T (f x)

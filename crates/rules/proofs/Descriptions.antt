@@ -3,10 +3,10 @@ use mathlib.Core.Path.{_≡_, refl, sym, ap, _∙_, subst}
 use mathlib.Core.Bool.{Bool, true, false, _&&_}
 use mathlib.Core.Logic.{⊎-elim}
 use mathlib.Core.List.{List, [], _∷_, List·Memᴰ, List·Memᴰ·not-nil, List·Memᴰ·cases-cons}
-use Prim.Native.Nat.{ℕ, zero, suc, _+_, _-_, _≤_, _<_, min}
-use native.Mathlib.Nat.{not-suc-le-zero, min-le-left}
+use Prim.Native.Nat.{ℕ, zero, suc, _≤_, _<_}
+use native.Mathlib.Nat.{not-suc-le-zero}
 use native.Mathlib.Omega.{arith}
-use lib.Dec.{T, leb, ltb, eqb, leb→le, ltb→lt}
+use lib.Dec.{T, leb, ltb, leb→le, ltb→lt}
 use lib.ListN.{length, getD, take, drop, length-take}
 use Rattle.rules.specs.Expressions.{Value, value, malformed, expression}
 use Rattle.rules.specs.Descriptions.{mostBoards, mostLines, mostKinds, mostWords, mostWays, RelationLine, KindLine, Sheet, WellFormed, Reading, good, refused, Front, need, next, meaning, relationLine, boardsOnly, kindLine, section, numbersFit, offsetsFit, relationLines, kindLines, read}

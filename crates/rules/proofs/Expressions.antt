@@ -2,12 +2,12 @@
 -- they are enough. Assumes nothing.
 use mathlib.Core.Path.{_≡_, refl, sym, ap, ap₂, _∙_}
 use mathlib.Core.List.{List, [], _∷_, _++_, append-assoc, append-nil}
-use Prim.Native.Nat.{ℕ, zero, suc, _+_, _≤_, _<_}
+use Prim.Native.Nat.{ℕ, zero, suc, _≤_}
 use native.Mathlib.Nat.{not-suc-le-zero, le-of-suc-le-suc, le-refl}
 use native.Mathlib.Omega.{arith}
 use lib.ListN.{length, length-append}
 use Rattle.rules.specs.Relations.{E, A, B, S, join, meet, complement, converse}
-use Rattle.rules.specs.Expressions.{Code, relation, two, one, unknown, codes, code, Value, value, malformed, andThen, follow, evaluate, expression, Tree, same, above, below, side, or, and, not, inv, written, denoted}
+use Rattle.rules.specs.Expressions.{two, one, codes, code, Value, value, malformed, andThen, follow, evaluate, expression, Tree, same, above, below, side, or, and, not, inv, written, denoted}
 
 -- ---- words that write an expression mean what it stands for
 

@@ -1,10 +1,9 @@
 -- The search takes the first pair of the table at hand whose cell has several relations, as 01 says it: to go on from a place is to start over,
 -- since all places before it stay single. Assumes nothing.
 use mathlib.Core.Path.{_≡_, refl, sym, ap, ap₂, _∙_, subst}
-use mathlib.Core.Bool.{Bool, true, false, not}
-use mathlib.Core.Logic.{⊎-elim}
+use mathlib.Core.Bool.{Bool, true, false}
 use mathlib.Core.List.{List, [], _∷_, _++_, append-assoc, List·Memᴰ·head, List·Memᴰ·tail}
-use Prim.Native.Nat.{ℕ, zero, suc, _+_, _*_, _^_, _≤_, _<_}
+use Prim.Native.Nat.{ℕ, _^_, _≤_, _<_}
 use native.Mathlib.Omega.{arith}
 use lib.Dec.{T, ltb, lt→ltb, ltb→lt}
 use lib.ListN.{length, getD, set, length-set}
@@ -12,7 +11,7 @@ use lib.Seq.{getD-set-same}
 use Rattle.rules.specs.Relations.{relations, sets, has, size, _⊆_}
 use Rattle.rules.specs.Descriptions.{Sheet}
 use Rattle.rules.specs.Tables.{Table, Inside, emptied}
-use Rattle.rules.specs.Search.{End, found, none, proceed, orElse, attempt, choose}
+use Rattle.rules.specs.Search.{End, none, proceed, orElse, attempt, choose}
 use Rattle.rules.proofs.Sets.{true-T, has-small, ⊆-refl, single-⊆, single-small, size-mono, size-single}
 use Rattle.rules.proofs.Members.{All, all-one, all-append}
 use Rattle.rules.proofs.Inside.{inside-trans}

@@ -1,17 +1,16 @@
 -- Tables inside tables: an order, in which fewer relations in all means some relation less. Assumes nothing.
-use mathlib.Core.Path.{_≡_, refl, sym, ap, _∙_, subst}
+use mathlib.Core.Path.{_≡_, refl, sym, _∙_, subst}
 use mathlib.Core.Bool.{Bool, true, false}
-use mathlib.Core.Logic.{_⊎_, inl, inr, ⊎-elim}
 use mathlib.Core.List.{List, [], _∷_}
-use Prim.Native.Nat.{ℕ, zero, suc, _+_, _-_, _*_, _≤_, _<_}
-use native.Mathlib.Nat.{not-suc-le-zero, suc-inj, suc-ne-zero, le-antisymm, mul-le-mul-left, mul-suc}
+use Prim.Native.Nat.{ℕ, zero, suc, _+_, _*_, _≤_, _<_}
+use native.Mathlib.Nat.{not-suc-le-zero, suc-inj, suc-ne-zero, mul-le-mul-left, mul-suc}
 use native.Mathlib.Omega.{arith}
-use lib.Dec.{T, eqb, eqb→eq, eqb-refl}
-use lib.ListN.{length, getD, List·getD-eq-default}
+use lib.Dec.{T, eqb, eqb→eq}
+use lib.ListN.{length, getD}
 use lib.Seq.{ext-getD}
-use Rattle.rules.specs.Relations.{sets, _⊆_, size}
-use Rattle.rules.specs.Tables.{Table, Inside, cell, emptied, total}
-use Rattle.rules.proofs.Sets.{T-true, true-T, ⊆-refl, ⊆-trans, ⊆-antisym, ⊆-zero, size-mono, size-tight}
+use Rattle.rules.specs.Relations.{_⊆_}
+use Rattle.rules.specs.Tables.{Table, Inside, emptied, total}
+use Rattle.rules.proofs.Sets.{true-T, ⊆-refl, ⊆-trans, ⊆-antisym, ⊆-zero, size-mono, size-tight}
 
 -- cell (p, q) is one of the table's
 pub in-range : (v p q : ℕ) → p < v → q < v → v * p + q < v * v

@@ -2,23 +2,24 @@
 -- its bound, which grows with the table: such a strike loses no table in which the rule strikes nothing. Assumes nothing.
 use mathlib.Core.Path.{_≡_, refl, sym, ap, _∙_, subst}
 use mathlib.Core.Bool.{Bool, true, false, not}
-use mathlib.Core.Logic.{_⊎_, inl, inr, ⊎-elim}
-use mathlib.Core.List.{List, [], _∷_, List·Memᴰ, List·Memᴰ·head, List·Memᴰ·tail, List·Memᴰ·not-nil, List·Memᴰ·cases-cons}
-use Prim.Native.Nat.{ℕ, zero, suc, _+_, _-_, _*_, _/_, _%_, _≤_, _<_}
+use mathlib.Core.Logic.{⊎-elim}
+use mathlib.Core.List.{List, [], _∷_, List·Memᴰ·head, List·Memᴰ·tail, List·Memᴰ·not-nil, List·Memᴰ·cases-cons}
+use Prim.Native.Nat.{ℕ, zero, suc, _+_, _*_, _/_, _%_, _≤_, _<_}
 use native.Mathlib.Nat.{not-suc-le-zero, mod-lt, div-add-mod, div-lt-iff-lt-mul}
 use native.Mathlib.Omega.{arith}
-use lib.Dec.{T, eqb, ltb, eqb→eq, eqb-refl, ltb→lt, nltb→le, T-not, not-T}
+use lib.Pow.{pow-pos}
+use lib.Dec.{T, eqb, ltb, eqb→eq, eqb-refl, ltb→lt, nltb→le, T-not}
 use lib.ListN.{length, getD, set, replicate, length-set, length-replicate, getD-replicate, List·getD-eq-default}
 use lib.Seq.{getD-set-same, getD-set-other, set-out, ext-getD}
-use Rattle.rules.specs.Relations.{sets, meet, _⊆_, converse, compose}
+use Rattle.rules.specs.Relations.{relations, sets, meet, _⊆_, converse, compose}
 use Rattle.rules.specs.Descriptions.{Sheet}
 use Rattle.rules.specs.Tables.{Table, Inside, cell, emptied, total}
 use Rattle.rules.specs.Closed.{Closed, Largest}
 use Rattle.rules.specs.Closing.{Rule, Idle, rules, strike, sweep, sweeps, closing}
-use Rattle.rules.proofs.Sets.{true-T, T-true, T-decide, ⊆-refl, ⊆-trans, ⊆-zero, zero-⊆, meet-small, meet-left, meet-right, meet-largest}
-use Rattle.rules.proofs.Composition.{converse-zero, compose-zero-left, compose-zero-right}
+use Rattle.rules.proofs.Sets.{true-T, T-decide, ⊆-refl, ⊆-trans, ⊆-zero, zero-⊆, meet-small, meet-left, meet-right, meet-largest}
+use Rattle.rules.proofs.Composition.{converse-zero, compose-zero-left}
 use Rattle.rules.proofs.Members.{All}
-use Rattle.rules.proofs.Inside.{in-range, inside-refl, inside-trans, inside-antisym, total-mono, total-tight, emptied-in, emptied-out}
+use Rattle.rules.proofs.Inside.{inside-refl, inside-trans, inside-antisym, total-mono, total-tight, emptied-out}
 use Rattle.rules.proofs.Rules.{Grows, rules-grow, closed-idle, idle-closed}
 
 -- ---- one strike
@@ -162,7 +163,7 @@ closing-largest s t h =
     let f : Left (s .boards) (rules s) t (closing s t) = sweeps-left (s .boards) (suc (total t)) (rules s) t (rules-grow s) h (omega arith) in
     record {
       table = f .table;
-      closed = idle-closed s (closing s t) (f .idle);
+      closed = idle-closed s (closing s t) (f .table) (f .idle);
       inside = f .inside;
       largest = λ w k c i. f .keeps w i (closed-idle c);
     }
@@ -185,10 +186,15 @@ blank-at v k =
     (λ n. List·getD-eq-default (replicate (v * v) 0) 0
     (subst (λ (m : ℕ). m ≤ k) (sym (length-replicate (v * v) 0)) (nltb→le k (v * v) n))) (T-decide (ltb k (v * v)))
 
+blank-table : (v : ℕ) → Table v (blank v)
+unfolding blank
+blank-table v =
+    record { cells = length-replicate (v * v) 0; small = λ k. subst (λ (x : ℕ). x < sets) (sym (blank-at v k)) (pow-pos relations) }
+
 -- the all-empty table is closed
 pub blank-closed : (s : Sheet) → Closed s (blank (s .boards))
 blank-closed s =
-    idle-closed s (blank (s .boards))
+    idle-closed s (blank (s .boards)) (blank-table (s .boards))
     (λ r m. subst (λ (x : ℕ). x ⊆ r .bound (blank (s .boards))) (sym (blank-at (s .boards) (s .boards * r .row + r .column))) (zero-⊆ (r .bound (blank (s .boards)))))
 
 -- each place of a table is a cell
@@ -207,8 +213,7 @@ module _ {s : Sheet} {t : List ℕ} (h : Table (s .boards) t) (c : Closed s t) w
       (c .rule3 p q r hp hq hr))
 
   empty-turn : (p q : ℕ) → p < s .boards → q < s .boards → cell (s .boards) t p q ≡ 0 → cell (s .boards) t q p ≡ 0
-  empty-turn p q hp hq e =
-      ⊆-zero (h .small (s .boards * q + p)) (subst (λ (x : ℕ). cell (s .boards) t q p ⊆ x) (ap converse e ∙ converse-zero) (c .rule2 p q hp hq))
+  empty-turn p q hp hq e = c .rule2 p q hp hq ∙ ap converse e ∙ converse-zero
 
   empty-all : (p q : ℕ) → p < s .boards → q < s .boards → cell (s .boards) t p q ≡ 0 → (x y : ℕ) → x < s .boards → y < s .boards
       → cell (s .boards) t x y ≡ 0

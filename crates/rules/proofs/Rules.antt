@@ -1,10 +1,10 @@
 -- A table is closed exactly if each rule of the description's list strikes nothing; and each rule's bound grows with the table, which is all
 -- that the closing needs to know of it. Assumes nothing.
-use mathlib.Core.Path.{_≡_, refl, sym, ap, subst}
+use mathlib.Core.Path.{_≡_, subst}
 use mathlib.Core.Bool.{Bool, true, false, not, _&&_, _||_}
-use mathlib.Core.Logic.{_⊎_, inl, inr, ⊎-elim}
-use mathlib.Core.List.{List, [], _∷_, _++_, List·Memᴰ}
-use Prim.Native.Nat.{ℕ, zero, suc, _+_, _*_, _^_, _<_}
+use mathlib.Core.Logic.{⊎-elim}
+use mathlib.Core.List.{List, _++_, List·Memᴰ}
+use Prim.Native.Nat.{ℕ, _+_, _*_, _^_, _<_}
 use native.Mathlib.Omega.{arith}
 use lib.Dec.{T, eqb, eqb→eq, eqb-refl, not-T, T-not}
 use Rattle.rules.specs.Relations.{someBelow, eachBelow, relations, same, above, E, A, S, has, Lacks, full, join, complement, _⊆_, within, converse, compose}
@@ -12,9 +12,9 @@ use Rattle.rules.specs.Descriptions.{RelationLine, KindLine, Sheet}
 use Rattle.rules.specs.Tables.{Table, Inside, at, upTo}
 use Rattle.rules.specs.Arrangements.{way, width, Alike}
 use Rattle.rules.specs.Closed.{Misses, Closed}
-use Rattle.rules.specs.Closing.{unless, reaches, agree, bound6, bound6′, bound7, bound7′, Rule, Idle, lies, only, boardsOf, kindsOf, waysOf, rules1, rules2, rules3, rules4, rules5, rules6, rules7, rules}
-use Rattle.rules.proofs.Sets.{and-T, T-and-left, T-and-right, or-T-left, or-T-right, T-or, some-in, some-out, each-at, each-all, T-decide, T-not-not, has-single, single-has, complement-in, complement-out, ⊆-refl, ⊆-trans, ⊆-full, within-⊆, ⊆-within}
-use Rattle.rules.proofs.Composition.{converse-mono, compose-mono}
+use Rattle.rules.specs.Closing.{unless, reaches, agree, bound6, bound6′, bound7, bound7′, Rule, Idle, lies, only, boardsOf, waysOf, rules1, rules2, rules3, rules4, rules5, rules6, rules7, rules}
+use Rattle.rules.proofs.Sets.{and-T, T-and-left, T-and-right, or-T-left, or-T-right, T-or, some-in, some-out, each-at, each-all, T-decide, T-not-not, has-single, single-has, complement-in, complement-out, ⊆-refl, ⊆-eq, ⊆-trans, ⊆-antisym, ⊆-full, within-⊆, ⊆-within}
+use Rattle.rules.proofs.Composition.{converse-small, converse-mono, converse-converse, compose-mono}
 use Rattle.rules.proofs.Members.{All, all-none, all-one, one-all, all-append, append-left, append-right, all-over, over-all, upTo-in, upTo-out}
 
 -- ---- the list of rules, by what holds of each of them
@@ -310,13 +310,20 @@ module _ (s : Sheet) (t : List ℕ) where
         unless-in (not (within (at s t (k .p) (l .p)) E)) (at s t (way k i) (way l i)) E
         (λ n. f (within-⊆ (at s t (k .p) (l .p)) E (T-not-not (within (at s t (k .p) (l .p)) E) (λ e. T-not (not (within (at s t (k .p) (l .p)) E)) n e))))
 
+-- two cells within each other's converses are each other's converses
+turned : (s : Sheet) (t : List ℕ) → Table (s .boards) t → (p q : ℕ) → at s t q p ⊆ converse (at s t p q) → at s t p q ⊆ converse (at s t q p)
+    → at s t q p ≡ converse (at s t p q)
+turned s t h p q a b =
+    ⊆-antisym (h .small (s .boards * q + p)) (converse-small (at s t p q)) a
+    (subst (λ (x : ℕ). converse (at s t p q) ⊆ x) (converse-converse (at s t q p) (h .small (s .boards * q + p))) (converse-mono b))
+
 -- a table is closed exactly if each rule of the list strikes nothing
 pub closed-idle : {s : Sheet} {t : List ℕ} → Closed s t → All (Idle (s .boards) t) (rules s)
 closed-idle {s} {t} c =
     all-rules (Idle (s .boards) t) s
     (record {
       r1 = c .rule1;
-      r2 = c .rule2;
+      r2 = λ p q h l. ⊆-eq (c .rule2 p q h l);
       r3 = c .rule3;
       r4 = c .rule4;
       r5 = c .rule5;
@@ -327,21 +334,21 @@ closed-idle {s} {t} c =
       r7′ = λ k m l n a i h. said7″ s t k l i (λ b. c .rule7″ k m l n (agree-alike k l a) b i h);
     })
 
-pub idle-closed : (s : Sheet) (t : List ℕ) → All (Idle (s .boards) t) (rules s) → Closed s t
-idle-closed s t h =
+pub idle-closed : (s : Sheet) (t : List ℕ) → Table (s .boards) t → All (Idle (s .boards) t) (rules s) → Closed s t
+idle-closed s t g h =
     let r = rules-all (Idle (s .boards) t) s h in
     record {
       rule1 = r .r1;
-      rule2 = r .r2;
+      rule2 = λ p q hp hq. turned s t g p q (r .r2 p q hp hq) (r .r2 q p hq hp);
       rule3 = r .r3;
       rule4 = r .r4;
       rule5 = r .r5;
-      rule5′ = λ k m i j g l d. r .r5′ k m i j g l (differ-T d);
-      rule6 = λ k m z g. says6 s t k z (r .r6 k m z g);
-      rule6′ = λ k m z g i l. says6′ s t k z i (r .r6′ k m z g i l);
+      rule5′ = λ k m i j b l d. r .r5′ k m i j b l (differ-T d);
+      rule6 = λ k m z b. says6 s t k z (r .r6 k m z b);
+      rule6′ = λ k m z b i l. says6′ s t k z i (r .r6′ k m z b i l);
       rule7 = λ k m l n. says7 s t k l (r .r7 k m l n);
-      rule7′ = λ k m l n a i g. says7′ s t k l (r .r7 k m l n) i g;
-      rule7″ = λ k m l n a b i g. says7″ s t k l i (r .r7′ k m l n (alike-agree k l a) i g) b;
+      rule7′ = λ k m l n a i b. says7′ s t k l (r .r7 k m l n) i b;
+      rule7″ = λ k m l n a b i d. says7″ s t k l i (r .r7′ k m l n (alike-agree k l a) i d) b;
     }
 
 -- ---- bounds that grow with the table

@@ -3,18 +3,29 @@
 use mathlib.Core.Path.{_≡_, refl, sym, ap, _∙_, subst}
 use mathlib.Core.Bool.{Bool, true, false, not}
 use mathlib.Core.Logic.{_⊎_, inl, inr, ⊎-elim}
-use mathlib.Core.List.{List, [], _∷_}
-use Prim.Native.Nat.{ℕ, zero, suc, _+_, _≤_, _<_}
+use mathlib.Core.List.{List, List·Memᴰ, List·Memᴰ·head, List·Memᴰ·tail}
+use Prim.Native.Nat.{ℕ, zero, suc, _≤_, _<_}
 use native.Mathlib.Omega.{arith}
-use lib.Dec.{T, leb, leb→le, le→leb, nleb→lt, T-not}
-use lib.ListN.{length, getD}
+use lib.Dec.{T, leb, leb→le, nleb→lt}
+use Rattle.rules.specs.Relations.{relations}
 use Rattle.rules.specs.Descriptions.{Sheet, WellFormed}
-use Rattle.rules.specs.Tables.{Table, Inside}
-use Rattle.rules.specs.Arrangements.{Arrangement}
-use Rattle.rules.specs.Search.{Order, End, found, none, places, search, Before, Least, Nowhere, Capped, ended, ranOut, tries, cap}
-use Rattle.rules.proofs.Sets.{true-T, T-true}
-use Rattle.rules.proofs.Choices.{Closes, Right, AtMost, search-right}
+use Rattle.rules.specs.Tables.{Table}
+use Rattle.rules.specs.Search.{plainOrder, Order, End, found, none, places, search, Before, Least, Nowhere, ended, ranOut, tries, cap}
+use Rattle.rules.proofs.Sets.{true-T}
+use Rattle.rules.proofs.Choices.{Closes, Right, search-right}
 use Rattle.rules.proofs.Order.{agree-equal, before-irrefl, before-trans}
+
+-- the order of 01 has each relation once
+pub plain-order : Order plainOrder
+unfolding relations
+plain-order = record { once = refl; each = λ r h. member r h }
+  where
+    member : (r : ℕ) → r < 4 → List·Memᴰ r plainOrder
+    member zero h = List·Memᴰ·head refl
+    member (suc zero) h = List·Memᴰ·tail (List·Memᴰ·head refl)
+    member (suc (suc zero)) h = List·Memᴰ·tail (List·Memᴰ·tail (List·Memᴰ·head refl))
+    member (suc (suc (suc zero))) h = List·Memᴰ·tail (List·Memᴰ·tail (List·Memᴰ·tail (List·Memᴰ·head refl)))
+    member (suc (suc (suc (suc r)))) h = let z : ⊥ = omega arith in absurd z
 
 -- there is only one first arrangement
 pub least-unique : {s : Sheet} {ord t w u : List ℕ} → Least s ord t w → Least s ord t u → w ≡ u

@@ -3,12 +3,12 @@
 use mathlib.Core.Path.{_≡_, refl, sym, ap, _∙_, subst}
 use mathlib.Core.Bool.{Bool, true, false, not, _&&_, _||_}
 use mathlib.Core.Logic.{_⊎_, inl, inr}
-use Prim.Native.Nat.{ℕ, zero, suc, _+_, _-_, _*_, _/_, _%_, _^_, _≤_, _<_}
-use native.Mathlib.Nat.{not-suc-le-zero, le-of-suc-le-suc, pow-suc, eq-or-lt-of-le}
+use Prim.Native.Nat.{ℕ, zero, suc, _+_, _*_, _/_, _%_, _^_, _≤_, _<_}
+use native.Mathlib.Nat.{not-suc-le-zero, le-of-suc-le-suc, eq-or-lt-of-le}
 use native.Mathlib.Omega.{arith}
 use lib.Pow.{pow-pos, pow-lt}
 use lib.Dec.{T, eqb, T-not, not-T}
-use Rattle.rules.specs.Relations.{someBelow, eachBelow, countBelow, relations, sets, has, digit, setTo, setOf, full, meet, join, complement, within, size, opposite, converse, composed, compose, _⊆_}
+use Rattle.rules.specs.Relations.{someBelow, eachBelow, countBelow, relations, sets, has, digit, setTo, setOf, full, meet, join, complement, within, size, _⊆_}
 
 -- ---- tests
 
@@ -240,6 +240,9 @@ unfolding within
 pub ⊆-refl : (x : ℕ) → x ⊆ x
 ⊆-refl x = record { member = λ r h t. t }
 
+pub ⊆-eq : {x y : ℕ} → x ≡ y → x ⊆ y
+⊆-eq {x} e = subst (λ (y : ℕ). x ⊆ y) e (⊆-refl x)
+
 pub ⊆-trans : {x y z : ℕ} → x ⊆ y → y ⊆ z → x ⊆ z
 ⊆-trans s t = record { member = λ r h u. t .member r h (s .member r h u) }
 
@@ -248,10 +251,6 @@ pub ⊆-antisym : {x y : ℕ} → x < sets → y < sets → x ⊆ y → y ⊆ x 
 
 pub zero-⊆ : (y : ℕ) → 0 ⊆ y
 zero-⊆ y = record { member = λ r h t. absurd (subst T (has-zero r) t) }
-
-pub full-small : full < sets
-unfolding full
-full-small = setOf-small (λ r. true)
 
 pub ⊆-full : (x : ℕ) → x ⊆ full
 unfolding full

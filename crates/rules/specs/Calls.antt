@@ -2,15 +2,15 @@
 -- Assumes nothing.
 use mathlib.Core.Bool.{Bool, true, false, _&&_}
 use mathlib.Core.List.{List, [], _∷_}
-use Prim.Native.Nat.{ℕ, zero, suc, _*_, _-_}
+use Prim.Native.Nat.{ℕ, _*_}
 use lib.Dec.{leb, ltb, eqb}
 use lib.ListN.{length, replicate}
 use Rattle.rules.specs.Relations.{sets, full, size, within}
-use Rattle.rules.specs.Descriptions.{Sheet, Reading, good, refused, read, mostBoards}
+use Rattle.rules.specs.Descriptions.{Sheet, good, refused, read, mostBoards}
 use Rattle.rules.specs.Tables.{cell, emptied}
 use Rattle.rules.specs.Closed.{strikes}
 use Rattle.rules.specs.Closing.{Rule, rules, closing}
-use Rattle.rules.specs.Search.{End, found, none, Capped, ended, ranOut, search, cap}
+use Rattle.rules.specs.Search.{found, none, Capped, ended, ranOut, search, cap}
 
 -- a number, a count, and the lent table afterwards
 pub record Outcome : Type 0 where
@@ -82,6 +82,6 @@ idle v t (r ∷ rs) = elim (within (cell v t (r .row) (r .column)) (r .bound t))
 unfoldable pub arranged : Sheet → List ℕ → Bool
 arranged s t = singlesOnly t && idle (s .boards) t (rules s)
 
--- the check: 10 where the table is no arrangement
+-- the check says yes exactly if the table is an arrangement: 10 where it is none
 unfoldable pub check : List ℕ → List ℕ → Outcome
 check ws t = given ws t (λ s. elim (arranged s t) [ true ↦ succeed 0 t | false ↦ refuse 10 0 t ])

@@ -17,7 +17,7 @@ pub record Closed (s : Sheet) (t : List ℕ) : Type 0 where
   -- 1. (p, p) holds nothing but E.
   pub rule1 : (p : ℕ) → p < s .boards → at s t p p ⊆ E
   -- 2. (q, p) is the converse of (p, q).
-  pub rule2 : (p q : ℕ) → p < s .boards → q < s .boards → at s t q p ⊆ converse (at s t p q)
+  pub rule2 : (p q : ℕ) → p < s .boards → q < s .boards → at s t q p ≡ converse (at s t p q)
   -- 3. (p, r) lies within the composition of (p, q) with (q, r).
   pub rule3 : (p q r : ℕ) → p < s .boards → q < s .boards → r < s .boards → at s t p r ⊆ compose (at s t p q) (at s t q r)
   -- 4. A relation line's cell lies within its set.

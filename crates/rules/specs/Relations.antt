@@ -2,7 +2,7 @@
 -- Assumes nothing.
 use mathlib.Core.Bool.{Bool, true, false, not, _&&_, _||_}
 use mathlib.Core.List.{List, [], _∷_}
-use Prim.Native.Nat.{ℕ, zero, suc, _+_, _-_, _*_, _/_, _%_, _^_, _<_}
+use Prim.Native.Nat.{ℕ, zero, suc, _+_, _*_, _/_, _%_, _^_, _<_}
 use lib.Dec.{T, eqb}
 use lib.ListN.{getD}
 
@@ -42,6 +42,7 @@ side = 3
 abbrev pub sets : ℕ
 sets = 2 ^ relations
 
+-- the sets of one relation
 abbrev pub E : ℕ
 E = 1
 
@@ -63,6 +64,7 @@ has x (suc r) = has (x / 2) r
 abbrev pub Lacks : ℕ → ℕ → Type 0
 Lacks x r = T (not (has x r))
 
+-- a test as a binary digit
 abbrev pub digit : Bool → ℕ
 digit true = 1
 digit false = 0
@@ -98,13 +100,13 @@ pub record _⊆_ (x y : ℕ) : Type 0 where
 unfoldable pub within : ℕ → ℕ → Bool
 within x y = eachBelow relations (λ r. not (has x r) || has y r)
 
--- the number of members of x; x is a single relation, or has several
+-- the number of members of x
 unfoldable pub size : ℕ → ℕ
 size x = countBelow relations (has x)
 
 -- relation r the other way round: the converse exchanges A with B
 unfoldable pub opposite : ℕ → ℕ
-opposite r = getD (0 ∷ 2 ∷ 1 ∷ 3 ∷ []) r 0
+opposite r = getD (same ∷ below ∷ above ∷ side ∷ []) r 0
 
 unfoldable pub converse : ℕ → ℕ
 converse x = setOf (λ r. has x (opposite r))
@@ -112,9 +114,13 @@ converse x = setOf (λ r. has x (opposite r))
 -- The sixteen compositions of single relations: what p to r may be, given p to q (row) and q to r (column).
 unfoldable pub singles : List ℕ
 singles =
+    -- with E, A, B, S: E
     1 ∷ 2 ∷ 4 ∷ 8
+    -- A
     ∷ 2 ∷ 2 ∷ 7 ∷ 10
+    -- B
     ∷ 4 ∷ 15 ∷ 4 ∷ 8
+    -- S
     ∷ 8 ∷ 8 ∷ 12 ∷ 15
     ∷ []
 

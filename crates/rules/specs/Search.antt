@@ -1,20 +1,20 @@
 -- The search (01, 'The search'), over any closing and any order of relations; the order of arrangements; the budget.
 -- Assumes nothing.
 use mathlib.Core.Path.{_≡_}
-use mathlib.Core.Bool.{Bool, true, false}
+use mathlib.Core.Bool.{true, false}
 use mathlib.Core.Logic.{_⊎_}
 use mathlib.Core.List.{List, [], _∷_, flatMap, List·Memᴰ}
-use Prim.Native.Nat.{ℕ, zero, suc, _+_, _*_, _^_, _<_}
+use Prim.Native.Nat.{ℕ, suc, _+_, _*_, _^_, _<_}
 use lib.Dec.{leb, ltb}
 use lib.ListN.{length, getD, set}
-use Rattle.rules.specs.Relations.{relations, has, size}
+use Rattle.rules.specs.Relations.{relations, same, above, below, side, has, size}
 use Rattle.rules.specs.Descriptions.{Sheet}
 use Rattle.rules.specs.Tables.{Inside, emptied, upTo}
 use Rattle.rules.specs.Arrangements.{Arrangement}
 
--- E, A, B, S
+-- the order E, A, B, S
 abbrev pub plainOrder : List ℕ
-plainOrder = 0 ∷ 1 ∷ 2 ∷ 3 ∷ []
+plainOrder = same ∷ above ∷ below ∷ side ∷ []
 
 -- an order of relations has each once
 pub record Order (ord : List ℕ) : Type 0 where

@@ -9,6 +9,7 @@ use lib.ListN.{length, getD}
 use Rattle.rules.specs.Relations.{sets, _⊆_, size}
 use Rattle.rules.specs.Descriptions.{Sheet}
 
+-- cell (p, q) of a table of v boards
 abbrev pub cell : ℕ → List ℕ → ℕ → ℕ → ℕ
 cell v t p q = getD t (v * p + q) 0
 
@@ -16,7 +17,7 @@ cell v t p q = getD t (v * p + q) 0
 abbrev pub at : Sheet → List ℕ → ℕ → ℕ → ℕ
 at s t p q = cell (s .boards) t p q
 
--- a well-formed table
+-- a well-formed table: it has V times V cells, each a set
 pub record Table (v : ℕ) (t : List ℕ) : Type 0 where
   pub cells : length t ≡ v * v
   pub small : (k : ℕ) → getD t k 0 < sets

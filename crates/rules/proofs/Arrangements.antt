@@ -12,8 +12,10 @@ use Rattle.rules.specs.Tables.{Table, Inside, at}
 use Rattle.rules.specs.Arrangements.{way, width, Alike, Arrangement}
 use Rattle.rules.specs.Closed.{Misses, Closed, Largest}
 use Rattle.rules.specs.Closing.{reaches, agree}
-use Rattle.rules.proofs.Sets.{T-decide, T-not-not, or-T-left, or-T-right, T-or, some-in, some-out, has-single, single-has, ⊆-eq, single-⊆, join-in}
-use Rattle.rules.proofs.Rules.{relations-pos, not-misses, agree-alike, alike-agree, T-differ}
+use Rattle.rules.proofs.Tests.{T-decide, T-not-not, or-T-left, or-T-right, T-or, some-in, some-out, T-differ}
+use Rattle.rules.proofs.Digits.{has-single, single-has}
+use Rattle.rules.proofs.Sets.{⊆-eq, single-⊆, join-in}
+use Rattle.rules.proofs.Rules.{relations-pos, not-misses, agree-alike, alike-agree}
 
 -- ---- single relations
 

@@ -10,14 +10,15 @@ use native.Mathlib.Omega.{arith}
 use lib.Dec.{T, eqb, ltb, eqb→eq, eqb-refl, ltb→lt, lt→ltb, nltb→le}
 use lib.Pow.{pow-pos}
 use lib.ListN.{length, getD, List·getD-eq-default}
-use Rattle.rules.specs.Relations.{countBelow, relations, sets, has, size, within}
+use Rattle.rules.specs.Relations.{relations, sets, has, size, within}
 use Rattle.rules.specs.Descriptions.{mostBoards, Sheet, WellFormed}
 use Rattle.rules.specs.Tables.{Table, Inside, cell, at, emptied, total}
 use Rattle.rules.specs.Arrangements.{Arrangement}
 use Rattle.rules.specs.Closed.{strikes}
 use Rattle.rules.specs.Closing.{Rule, Idle, rules}
 use Rattle.rules.specs.Calls.{setsOnly, wellFormed, singlesOnly, idle, arranged}
-use Rattle.rules.proofs.Sets.{true-T, and-T, T-and-left, T-and-right, T-decide, within-⊆, ⊆-within, size-one, size-single, size-pos, some-member}
+use Rattle.rules.proofs.Tests.{true-T, and-T, T-and-left, T-and-right, T-decide, count-most}
+use Rattle.rules.proofs.Sets.{within-⊆, ⊆-within, size-one, size-single, size-pos, some-member}
 use Rattle.rules.proofs.Members.{All}
 use Rattle.rules.proofs.Inside.{in-range, total-mono}
 use Rattle.rules.proofs.Rules.{closed-idle, idle-closed}
@@ -124,14 +125,6 @@ module _ {s : Sheet} (f : WellFormed s) {t : List ℕ} where
           (s .boards * p + q) (subst (λ (n : ℕ). s .boards * p + q < n) (sym (h .cells)) (in-range (s .boards) p q hp hq))))
 
 -- ---- how many relations a closing can strike
-
-count-most : (n : ℕ) (f : ℕ → Bool) → countBelow n f ≤ n
-count-most zero f = omega arith
-count-most (suc n) f = go (f n) (count-most n f)
-  where
-    go : (b : Bool) → countBelow n f ≤ n → elim b [ true ↦ suc (countBelow n f) | false ↦ countBelow n f ] ≤ suc n
-    go true h = omega arith
-    go false h = omega arith
 
 total-most : (t : List ℕ) → total t ≤ relations * length t
 unfolding total size

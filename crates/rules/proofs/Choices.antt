@@ -10,19 +10,21 @@ use native.Mathlib.Omega.{arith}
 use lib.Pow.{pow-pos}
 use lib.Dec.{T, ltb, ltb→lt, lt→ltb, nltb→le, T-not, not-T}
 use lib.ListN.{length, getD, set, length-set}
-use lib.Seq.{getD-set-same}
-use Rattle.rules.specs.Relations.{relations, sets, E, has, size, _⊆_, converse, opposite}
+use Rattle.rules.specs.Relations.{relations, E, has, size, _⊆_, converse, opposite}
 use Rattle.rules.specs.Descriptions.{Sheet, WellFormed}
 use Rattle.rules.specs.Tables.{Table, Inside, at, emptied, upTo}
 use Rattle.rules.specs.Arrangements.{Arrangement}
 use Rattle.rules.specs.Closed.{Closed, Largest}
 use Rattle.rules.specs.Search.{Order, End, found, none, later, proceed, orElse, attempt, choose, places, search, rank, Before}
-use Rattle.rules.proofs.Sets.{true-T, T-decide, has-single, ⊆-refl, ⊆-trans, ⊆-one, single-⊆, single-small, ⊆-single, size-mono, size-tight, size-single, size-one, size-pos, some-member, has-small}
+use Rattle.rules.proofs.Tests.{true-T, T-decide}
+use Rattle.rules.proofs.Digits.{has-single, has-small}
+use Rattle.rules.proofs.Sets.{⊆-refl, ⊆-trans, ⊆-one, ⊆-single, size-tight, size-single, size-one, size-pos, some-member}
 use Rattle.rules.proofs.Composition.{opposite-small, converse-single}
 use Rattle.rules.proofs.Members.{All, all-none, all-one, over-all, all-over, upTo-in, upTo-out}
 use Rattle.rules.proofs.Inside.{in-range, inside-refl, inside-trans, emptied-in, emptied-out, emptied-inside}
 use Rattle.rules.proofs.Rules.{relations-pos}
 use Rattle.rules.proofs.Largest.{set-each, place}
+use Rattle.rules.proofs.Narrowing.{narrowed-table, narrowed-inside, narrowed-at, narrowed-one, narrowed-kept}
 use Rattle.rules.proofs.Arrangements.{One, one-has, one-within, Singles, closed-arrangement, arrangement-kept}
 
 -- a closing: it gives the largest closed table inside a table
@@ -229,23 +231,6 @@ module _ {s : Sheet} (f : WellFormed s) {clo : List ℕ → List ℕ} (closes : 
       in-list = subst (λ (n : ℕ). k < n) (sym (ready .table .cells)) valid
 
       module _ (r : ℕ) (member : T (has (getD t k 0) r)) where
-        small : r < relations
-        small = has-small relations (getD t k 0) r (ready .table .small k) member
-
-        narrowed : Table (s .boards) (set t k (2 ^ r))
-        narrowed =
-            record {
-              cells = length-set t k (2 ^ r) ∙ ready .table .cells;
-              small = set-each (λ j x. x < sets) t k (2 ^ r) (ready .table .small) (single-small small);
-            }
-
-        narrower : Inside (set t k (2 ^ r)) t
-        narrower =
-            record {
-              cells = length-set t k (2 ^ r);
-              each = set-each (λ j x. x ⊆ getD t j 0) t k (2 ^ r) (λ j. ⊆-refl (getD t j 0)) (single-⊆ r (getD t k 0) member);
-            }
-
         -- an arrangement with r at place k is inside the narrowed table
         held : {u : List ℕ} → Arrangement s u → Inside u t → T (has (getD u k 0) r) → Inside u (set t k (2 ^ r))
         held {u} a i h =
@@ -256,38 +241,34 @@ module _ {s : Sheet} (f : WellFormed s) {clo : List ℕ → List ℕ} (closes : 
                   (subst (λ (x : ℕ). getD u k 0 ⊆ x) (one-has (arrangement-one a k valid) r h) (⊆-refl (getD u k 0)));
             }
 
-        at-place : (u : List ℕ) → Inside u (set t k (2 ^ r)) → getD u k 0 ⊆ 2 ^ r
-        at-place u i = subst (λ (x : ℕ). getD u k 0 ⊆ x) (getD-set-same t k (2 ^ r) 0 in-list) (i .each k)
-
         settled : (p q : ℕ) → p < q → q < s .boards
             → List·Memᴰ (s .boards * p + q) ks ⊎ (size (at s (clo (set t k (2 ^ r))) p q) ≤ 1)
         settled p q h l = from (ready .settled p q h l)
           where
             inner : Inside (clo (set t k (2 ^ r))) (set t k (2 ^ r))
-            inner = closes (set t k (2 ^ r)) narrowed .inside
+            inner = closes (set t k (2 ^ r)) (narrowed-table (ready .table) k r member) .inside
 
             from : List·Memᴰ (s .boards * p + q) (k ∷ ks) ⊎ (size (at s t p q) ≤ 1)
                 → List·Memᴰ (s .boards * p + q) ks ⊎ (size (at s (clo (set t k (2 ^ r))) p q) ≤ 1)
-            from (inl m) = ⊎-elim here (λ d. inl d) (List·Memᴰ·cases-cons m)
-              where
-                here : s .boards * p + q ≡ k → List·Memᴰ (s .boards * p + q) ks ⊎ (size (at s (clo (set t k (2 ^ r))) p q) ≤ 1)
-                here e =
-                    inr
-                    (subst (λ (j : ℕ). size (getD (clo (set t k (2 ^ r))) j 0) ≤ 1) (sym e)
-                    (omega (arith, size-mono (at-place (clo (set t k (2 ^ r))) inner), size-single r small)))
-            from (inr d) = inr (omega (arith, size-mono (inside-trans inner narrower .each (s .boards * p + q))))
+            from (inl m) =
+                ⊎-elim
+                (λ (e : s .boards * p + q ≡ k).
+                inr
+                (subst (λ (j : ℕ). size (getD (clo (set t k (2 ^ r))) j 0) ≤ 1) (sym e) (narrowed-one (ready .table) k r member inner in-list)))
+                (λ d. inl d) (List·Memᴰ·cases-cons m)
+            from (inr d) = inr (narrowed-kept (ready .table) k r member inner (s .boards * p + q) d)
 
         try-right : Right ks (set t k (2 ^ r)) (proceed go (clo (set t k (2 ^ r))))
-        try-right = proceed-right ks go goes (set t k (2 ^ r)) narrowed settled
+        try-right = proceed-right ks go goes (set t k (2 ^ r)) (narrowed-table (ready .table) k r member) settled
 
         -- a try that finds: everything else at place k comes later, or the place agrees
         try-found : (rs : List ℕ) (n m : ℕ) (w : List ℕ) → Right ks (set t k (2 ^ r)) (found n w) → Best (r ∷ rs) k ks t (found m w)
-        try-found rs n m w d = (d .0, inside-trans (d .1) narrower, first)
+        try-found rs n m w d = (d .0, inside-trans (d .1) (narrowed-inside (ready .table) k r member), first)
           where
             mine : T (has (getD w k 0) r)
             mine =
                 let o = arrangement-one (d .0) k valid in
-                subst (λ (x : ℕ). T (has x r)) (sym (one-within o r (at-place w (d .1)))) (has-single r)
+                subst (λ (x : ℕ). T (has x r)) (sym (one-within o r (narrowed-at (ready .table) k r member (d .1) in-list))) (has-single r)
 
             first : (u : List ℕ) → Arrangement s u → Inside u t → First (r ∷ rs) k ks w u
             first u a i = ⊎-elim same other (T-decide (has (getD u k 0) r))

@@ -5,7 +5,9 @@ use mathlib.Core.Bool.{Bool, _&&_}
 use Prim.Native.Nat.{ℕ, _^_, _<_}
 use lib.Dec.{T, eqb, ltb, eqb→eq, ltb→lt}
 use Rattle.rules.specs.Relations.{someBelow, eachBelow, relations, sets, E, has, setTo, setOf, opposite, converse, singles, composed, compose, _⊆_}
-use Rattle.rules.proofs.Sets.{and-T, T-and-left, T-and-right, some-in, some-out, each-at, has-zero, setOf-small, setOf-in, setOf-out, ⊆-zero}
+use Rattle.rules.proofs.Tests.{and-T, T-and-left, T-and-right, some-in, some-out, each-at}
+use Rattle.rules.proofs.Digits.{has-zero}
+use Rattle.rules.proofs.Sets.{setOf-small, setOf-in, setOf-out, ⊆-zero}
 
 -- a test that passes at each set below n passes at x
 at : (f : ℕ → Bool) → T (eachBelow sets f) → (x : ℕ) → x < sets → T (f x)

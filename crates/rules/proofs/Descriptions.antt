@@ -10,7 +10,7 @@ use lib.Dec.{T, leb, ltb, leb→le, ltb→lt}
 use lib.ListN.{length, getD, take, drop, length-take}
 use Rattle.rules.specs.Expressions.{Value, value, malformed, expression}
 use Rattle.rules.specs.Descriptions.{mostBoards, mostLines, mostKinds, mostWords, mostWays, RelationLine, KindLine, Sheet, WellFormed, Reading, good, refused, Front, need, next, meaning, relationLine, boardsOnly, kindLine, section, numbersFit, offsetsFit, relationLines, kindLines, read}
-use Rattle.rules.proofs.Sets.{T-and-left, T-and-right}
+use Rattle.rules.proofs.Tests.{T-and-left, T-and-right}
 use Rattle.rules.proofs.Members.{All}
 
 -- ---- what a good reading passed

@@ -1,21 +1,19 @@
 -- The search takes the first pair of the table at hand whose cell has several relations, as 01 says it: to go on from a place is to start over,
 -- since all places before it stay single. Assumes nothing.
-use mathlib.Core.Path.{_≡_, refl, sym, ap, ap₂, _∙_, subst}
+use mathlib.Core.Path.{_≡_, refl, sym, ap, ap₂, _∙_}
 use mathlib.Core.Bool.{Bool, true, false}
 use mathlib.Core.List.{List, [], _∷_, _++_, append-assoc, List·Memᴰ·head, List·Memᴰ·tail}
 use Prim.Native.Nat.{ℕ, _^_, _≤_, _<_}
 use native.Mathlib.Omega.{arith}
 use lib.Dec.{T, ltb, lt→ltb, ltb→lt}
-use lib.ListN.{length, getD, set, length-set}
-use lib.Seq.{getD-set-same}
-use Rattle.rules.specs.Relations.{relations, sets, has, size, _⊆_}
+use lib.ListN.{length, getD, set}
+use Rattle.rules.specs.Relations.{has, size}
 use Rattle.rules.specs.Descriptions.{Sheet}
 use Rattle.rules.specs.Tables.{Table, Inside, emptied}
 use Rattle.rules.specs.Search.{End, none, proceed, orElse, attempt, choose}
-use Rattle.rules.proofs.Sets.{true-T, has-small, ⊆-refl, single-⊆, single-small, size-mono, size-single}
+use Rattle.rules.proofs.Tests.{true-T}
 use Rattle.rules.proofs.Members.{All, all-one, all-append}
-use Rattle.rules.proofs.Inside.{inside-trans}
-use Rattle.rules.proofs.Largest.{set-each}
+use Rattle.rules.proofs.Narrowing.{narrowed-table, narrowed-one, narrowed-kept}
 use Rattle.rules.proofs.Choices.{Closes}
 
 -- the cells at these places have at most one relation
@@ -70,29 +68,9 @@ module _ {s : Sheet} {clo : List ℕ → List ℕ} (closes : Closes s clo) (ord 
   where
     settled : (r : ℕ) → T (has (getD t k 0) r) → Settled (clo (set t k (2 ^ r))) (js ++ (k ∷ []))
     settled r m =
-        all-append (λ j. size (getD (clo (set t k (2 ^ r))) j 0) ≤ 1) js
-        (λ j i. let l : size (getD t j 0) ≤ 1 = before j i in omega (arith, size-mono (inside-trans inner narrower .each j)))
-        (all-one (λ j. size (getD (clo (set t k (2 ^ r))) j 0) ≤ 1)
-        (omega (arith, size-mono (subst (λ (x : ℕ). getD (clo (set t k (2 ^ r))) k 0 ⊆ x) (getD-set-same t k (2 ^ r) 0 valid) (inner .each k)), size-single r small)))
-      where
-        small : r < relations
-        small = has-small relations (getD t k 0) r (h .small k) m
-
-        narrower : Inside (set t k (2 ^ r)) t
-        narrower =
-            record {
-              cells = length-set t k (2 ^ r);
-              each = set-each (λ j x. x ⊆ getD t j 0) t k (2 ^ r) (λ j. ⊆-refl (getD t j 0)) (single-⊆ r (getD t k 0) m);
-            }
-
-        inner : Inside (clo (set t k (2 ^ r))) (set t k (2 ^ r))
-        inner =
-            closes (set t k (2 ^ r))
-            (record {
-              cells = length-set t k (2 ^ r) ∙ h .cells;
-              small = set-each (λ j x. x < sets) t k (2 ^ r) (h .small) (single-small small);
-            })
-            .inside
+        let i : Inside (clo (set t k (2 ^ r))) (set t k (2 ^ r)) = closes (set t k (2 ^ r)) (narrowed-table h k r m) .inside in
+        all-append (λ j. size (getD (clo (set t k (2 ^ r))) j 0) ≤ 1) js (λ j n. narrowed-kept h k r m i j (before j n))
+        (all-one (λ j. size (getD (clo (set t k (2 ^ r))) j 0) ≤ 1) (narrowed-one h k r m i valid))
 
     pub starts-over : 1 < size (getD t k 0)
         → choose clo ord (js ++ (k ∷ ks)) t ≡ attempt clo (λ u. choose clo ord (js ++ (k ∷ ks)) u) k t ord

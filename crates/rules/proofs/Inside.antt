@@ -10,7 +10,8 @@ use lib.ListN.{length, getD}
 use lib.Seq.{ext-getD}
 use Rattle.rules.specs.Relations.{_⊆_}
 use Rattle.rules.specs.Tables.{Table, Inside, emptied, total}
-use Rattle.rules.proofs.Sets.{true-T, ⊆-refl, ⊆-trans, ⊆-antisym, ⊆-zero, size-mono, size-tight}
+use Rattle.rules.proofs.Tests.{true-T}
+use Rattle.rules.proofs.Sets.{⊆-refl, ⊆-trans, ⊆-antisym, ⊆-zero, size-mono, size-tight}
 
 -- cell (p, q) is one of the table's
 pub in-range : (v p q : ℕ) → p < v → q < v → v * p + q < v * v

@@ -16,7 +16,8 @@ use Rattle.rules.specs.Descriptions.{Sheet}
 use Rattle.rules.specs.Tables.{Table, Inside, cell, emptied, total}
 use Rattle.rules.specs.Closed.{Closed, Largest}
 use Rattle.rules.specs.Closing.{Rule, Idle, rules, strike, sweep, sweeps, closing}
-use Rattle.rules.proofs.Sets.{true-T, T-decide, ⊆-refl, ⊆-trans, ⊆-zero, zero-⊆, meet-small, meet-left, meet-right, meet-largest}
+use Rattle.rules.proofs.Tests.{true-T, T-decide}
+use Rattle.rules.proofs.Sets.{⊆-refl, ⊆-trans, ⊆-zero, zero-⊆, meet-small, meet-left, meet-right, meet-largest}
 use Rattle.rules.proofs.Composition.{converse-zero, compose-zero-left}
 use Rattle.rules.proofs.Members.{All}
 use Rattle.rules.proofs.Inside.{inside-refl, inside-trans, inside-antisym, total-mono, total-tight, emptied-out}

@@ -1,4 +1,6 @@
 -- The laws, each once, beside the definitions of specs/.
+pub mod Tests
+pub mod Digits
 pub mod Sets
 pub mod Composition
 pub mod Members
@@ -10,6 +12,7 @@ pub mod Panels
 pub mod Stages
 pub mod Expressions
 pub mod Descriptions
+pub mod Narrowing
 pub mod Choices
 pub mod FirstPair
 pub mod Order

@@ -15,7 +15,8 @@ use Rattle.rules.specs.Descriptions.{Sheet}
 use Rattle.rules.specs.Tables.{at}
 use Rattle.rules.specs.Arrangements.{Arrangement}
 use Rattle.rules.specs.Search.{Order, places, rank, Before}
-use Rattle.rules.proofs.Sets.{T-decide, has-single}
+use Rattle.rules.proofs.Tests.{T-decide}
+use Rattle.rules.proofs.Digits.{has-single}
 use Rattle.rules.proofs.Members.{All}
 use Rattle.rules.proofs.Largest.{place}
 use Rattle.rules.proofs.Arrangements.{One, one-has}

@@ -11,8 +11,7 @@ use Rattle.rules.specs.Relations.{relations, E, A, B, S, has, setTo, set
 use Rattle.rules.specs.Descriptions.{KindLine, Sheet, WellFormed}
 use Rattle.rules.specs.Tables.{at}
 use Rattle.rules.specs.Arrangements.{way, width, Arrangement}
-use Rattle.rules.proofs.Sets.{T-decide}
-use Rattle.rules.proofs.Rules.{T-differ}
+use Rattle.rules.proofs.Tests.{T-decide, T-differ}
 use Rattle.rules.proofs.Arrangements.{one-within, panel, fed}
 
 -- above what is below: same, above or below, and not side

@@ -13,7 +13,9 @@ use Rattle.rules.specs.Tables.{Table, Inside, at, upTo}
 use Rattle.rules.specs.Arrangements.{way, width, Alike}
 use Rattle.rules.specs.Closed.{Misses, Closed}
 use Rattle.rules.specs.Closing.{unless, reaches, agree, bound6, bound6′, bound7, bound7′, Rule, Idle, lies, only, boardsOf, waysOf, rules1, rules2, rules3, rules4, rules5, rules6, rules7, rules}
-use Rattle.rules.proofs.Sets.{and-T, T-and-left, T-and-right, or-T-left, or-T-right, T-or, some-in, some-out, each-at, each-all, T-decide, T-not-not, has-single, single-has, complement-in, complement-out, ⊆-refl, ⊆-eq, ⊆-trans, ⊆-antisym, ⊆-full, within-⊆, ⊆-within}
+use Rattle.rules.proofs.Tests.{and-T, T-and-left, T-and-right, or-T-left, or-T-right, T-or, some-in, some-out, each-at, each-all, T-decide, T-not-not, differ-T, T-differ}
+use Rattle.rules.proofs.Digits.{has-single, single-has}
+use Rattle.rules.proofs.Sets.{complement-in, complement-out, ⊆-refl, ⊆-eq, ⊆-trans, ⊆-antisym, ⊆-full, within-⊆, ⊆-within}
 use Rattle.rules.proofs.Composition.{converse-small, converse-mono, converse-converse, compose-mono}
 use Rattle.rules.proofs.Members.{All, all-none, all-one, one-all, all-append, append-left, append-right, all-over, over-all, upTo-in, upTo-out}
 
@@ -185,12 +187,6 @@ agree-alike k l t = (
   eqb→eq (k .code) (l .code) (T-and-left (eqb (k .code) (l .code)) (eqb (width k) (width l)) t),
   eqb→eq (width k) (width l) (T-and-right (eqb (k .code) (l .code)) (eqb (width k) (width l)) t),
 )
-
-pub differ-T : {i j : ℕ} → (i ≡ j → ⊥) → T (not (eqb i j))
-differ-T {i} {j} n = not-T (eqb i j) (λ e. n (eqb→eq i j e))
-
-pub T-differ : {i j : ℕ} → T (not (eqb i j)) → i ≡ j → ⊥
-T-differ {i} {j} t e = T-not (eqb i j) t (subst (λ (k : ℕ). T (eqb i k)) e (eqb-refl i))
 
 module _ (s : Sheet) (t : List ℕ) where
   -- rule 6, both parts, and rule 7, all three, say what their bounds say

@@ -11,7 +11,7 @@ use Rattle.rules.specs.Relations.{relations}
 use Rattle.rules.specs.Descriptions.{Sheet, WellFormed}
 use Rattle.rules.specs.Tables.{Table}
 use Rattle.rules.specs.Search.{plainOrder, Order, End, found, none, places, search, Before, Least, Nowhere, ended, ranOut, tries, cap}
-use Rattle.rules.proofs.Sets.{true-T}
+use Rattle.rules.proofs.Tests.{true-T}
 use Rattle.rules.proofs.Choices.{Closes, Right, search-right}
 use Rattle.rules.proofs.Order.{agree-equal, before-irrefl, before-trans}
 

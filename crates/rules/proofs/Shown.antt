@@ -12,11 +12,14 @@ use Rattle.rules.specs.Calls.{wellFormed, reading, close, searching, arr
 use Rattle.rules.specs.Cases.{AllHold, done, _also_, cases}
 
 pub shown : AllHold cases
-unfolding relations has setTo setOf full meet join complement within size opposite converse singles composed compose codes code follow evaluate expression relationLine kindLine section numbersFit offsetsFit relationLines kindLines read emptied total reaches agree bound6 bound6′ bound7 bound7′ rules1 rules2 rules3 rules4 rules5 rules6 rules7 rules strike sweep sweeps closing attempt choose places search cap wellFormed reading close searching arranged check flatMap
+unfolding relations has setTo setOf full meet join complement within size opposite converse singles composed compose codes code
+    follow evaluate expression relationLine kindLine section numbersFit offsetsFit relationLines kindLines read emptied
+    total reaches agree bound6 bound6′ bound7 bound7′ rules1 rules2 rules3 rules4 rules5 rules6 rules7 rules strike sweep
+    sweeps closing attempt choose places search cap wellFormed reading close searching arranged check flatMap
 shown =
     refl also refl also refl also refl also refl also refl also refl also refl also refl also refl
     also refl also refl also refl also refl also refl also refl also refl also refl also refl also refl
     also refl also refl also refl also refl also refl also refl also refl also refl also refl also refl
     also refl also refl also refl also refl also refl also refl also refl also refl also refl also refl
     also refl also refl also refl also refl also refl also refl also refl also refl also refl also refl
-    also done
+    also refl also done

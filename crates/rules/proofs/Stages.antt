@@ -9,7 +9,7 @@ use Rattle.rules.specs.Descriptions.{RelationLine, KindLine, Sheet}
 use Rattle.rules.specs.Tables.{Table, Inside, emptied}
 use Rattle.rules.specs.Closed.{Closed, Largest}
 use Rattle.rules.specs.Stages.{Among, left, Run, Stages}
-use Rattle.rules.proofs.Sets.{true-T, T-true}
+use Rattle.rules.proofs.Tests.{true-T, T-true}
 use Rattle.rules.proofs.Inside.{inside-trans, inside-antisym, emptied-inside}
 
 -- closed under more lines is closed under fewer

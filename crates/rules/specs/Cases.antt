@@ -123,6 +123,8 @@ cases =
     ∷ finds 4 (is 0 above 3 ∷ is 1 side 3 ∷ []) (feeds 0 (1 ∷ 2 ∷ []) ∷ []) 1
     (1 ∷ 2 ∷ 2 ∷ 2 ∷ 4 ∷ 1 ∷ 8 ∷ 8 ∷ 4 ∷ 8 ∷ 1 ∷ 1 ∷ 4 ∷ 8 ∷ 1 ∷ 1 ∷ [])
     -- V = 4, 0 has way 1, 2 has way 3, same code, 1 = 3: closes to 0 = 2 with no try
+    ∷ closes 4 (is 1 same 3 ∷ []) (feeds 0 (1 ∷ []) ∷ feeds 2 (3 ∷ []) ∷ []) 48
+    (1 ∷ 2 ∷ 1 ∷ 2 ∷ 4 ∷ 1 ∷ 4 ∷ 1 ∷ 1 ∷ 2 ∷ 1 ∷ 2 ∷ 4 ∷ 1 ∷ 4 ∷ 1 ∷ [])
     ∷ finds 4 (is 1 same 3 ∷ []) (feeds 0 (1 ∷ []) ∷ feeds 2 (3 ∷ []) ∷ []) 0
     (1 ∷ 2 ∷ 1 ∷ 2 ∷ 4 ∷ 1 ∷ 4 ∷ 1 ∷ 1 ∷ 2 ∷ 1 ∷ 2 ∷ 4 ∷ 1 ∷ 4 ∷ 1 ∷ [])
     -- Not marked P. Two boards that are each beside a third may be one board: 0 side 2, 1 side 2

@@ -20,9 +20,8 @@ use Rattle.rules.specs.Calls.{setsOnly, wellFormed, singlesOnly, idle, a
 use Rattle.rules.proofs.Tests.{true-T, and-T, T-and-left, T-and-right, T-decide, count-most}
 use Rattle.rules.proofs.Sets.{within-⊆, ⊆-within, size-one, size-single, size-pos, some-member}
 use Rattle.rules.proofs.Members.{All}
-use Rattle.rules.proofs.Inside.{in-range, total-mono}
+use Rattle.rules.proofs.Inside.{each-place, in-range, total-mono}
 use Rattle.rules.proofs.Rules.{closed-idle, idle-closed}
-use Rattle.rules.proofs.Largest.{place}
 use Rattle.rules.proofs.Arrangements.{Singles, arrangement-closed, closed-arrangement}
 
 -- a test of each element, as the calls make it
@@ -103,14 +102,12 @@ module _ {s : Sheet} (f : WellFormed s) {t : List ℕ} where
   arrangement-arranged a =
       and-T (singlesOnly t) (idle (s .boards) t (rules s))
       (each-in (λ x. eqb (size x) 1) singlesOnly refl (λ x xs. refl) t
-      (λ k l. single k (place (s .boards) k (subst (λ (n : ℕ). k < n) (a .table .cells) l))))
+      (each-place (λ k. T (eqb (size (getD t k 0)) 1)) (a .table) single))
       (idle-in (s .boards) t (rules s) (closed-idle (arrangement-closed f a)))
     where
-      single : (k : ℕ) → (p : ℕ) × (q : ℕ) × (p < s .boards) × (q < s .boards) × (k ≡ s .boards * p + q) → T (eqb (size (getD t k 0)) 1)
-      single k m =
-          let o = a .single (m .0) (m .1) (m .2) (m .3) in
-          let e : size (getD t k 0) ≡ 1 = ap (λ (j : ℕ). size (getD t j 0)) (m .4) ∙ ap size (o .2) ∙ size-single (o .0) (o .1) in
-          subst (λ (n : ℕ). T (eqb n 1)) (sym e) tt
+      single : (p q : ℕ) → p < s .boards → q < s .boards → T (eqb (size (at s t p q)) 1)
+      single p q hp hq =
+          let o = a .single p q hp hq in subst (λ (n : ℕ). T (eqb n 1)) (sym (ap size (o .2) ∙ size-single (o .0) (o .1))) tt
 
   pub arranged-arrangement : Table (s .boards) t → T (arranged s t) → Arrangement s t
   unfolding arranged

@@ -5,7 +5,6 @@ use mathlib.Core.Bool.{Bool, true, false, not}
 use mathlib.Core.Logic.{_⊎_, inl, inr, ⊎-elim}
 use mathlib.Core.List.{List, [], _∷_, List·Memᴰ, List·Memᴰ·head, List·Memᴰ·tail, List·Memᴰ·not-nil, List·Memᴰ·cases-cons}
 use Prim.Native.Nat.{ℕ, suc, _+_, _*_, _^_, _≤_, _<_}
-use native.Mathlib.Nat.{le-antisymm}
 use native.Mathlib.Omega.{arith}
 use lib.Pow.{pow-pos}
 use lib.Dec.{T, ltb, ltb→lt, lt→ltb, nltb→le, T-not, not-T}
@@ -16,14 +15,14 @@ use Rattle.rules.specs.Tables.{Table, Inside, at, emptied, upTo}
 use Rattle.rules.specs.Arrangements.{Arrangement}
 use Rattle.rules.specs.Closed.{Closed, Largest}
 use Rattle.rules.specs.Search.{Order, End, found, none, later, proceed, orElse, attempt, choose, places, search, rank, Before}
-use Rattle.rules.proofs.Tests.{true-T, T-decide}
+use Rattle.rules.proofs.Tests.{order-cases, true-T, T-decide}
 use Rattle.rules.proofs.Digits.{has-single, has-small}
 use Rattle.rules.proofs.Sets.{⊆-refl, ⊆-trans, ⊆-one, ⊆-single, size-tight, size-single, size-one, size-pos, some-member}
 use Rattle.rules.proofs.Composition.{opposite-small, converse-single}
 use Rattle.rules.proofs.Members.{All, all-none, all-one, over-all, all-over, upTo-in, upTo-out}
-use Rattle.rules.proofs.Inside.{in-range, inside-refl, inside-trans, emptied-in, emptied-out, emptied-inside}
+use Rattle.rules.proofs.Inside.{each-place, in-range, inside-refl, inside-trans, emptied-in, emptied-out, emptied-inside}
 use Rattle.rules.proofs.Rules.{relations-pos}
-use Rattle.rules.proofs.Largest.{set-each, place}
+use Rattle.rules.proofs.Largest.{set-each}
 use Rattle.rules.proofs.Narrowing.{narrowed-table, narrowed-inside, narrowed-at, narrowed-one, narrowed-kept}
 use Rattle.rules.proofs.Arrangements.{One, one-has, one-within, Singles, closed-arrangement, arrangement-kept}
 
@@ -107,11 +106,8 @@ module _ {s : Sheet} (f : WellFormed s) {clo : List ℕ → List ℕ} (closes : 
     settled : (p q : ℕ) → p < q → q < s .boards → List·Memᴰ (s .boards * p + q) ks ⊎ (size (at s t p q) ≤ 1)
 
   pub arrangement-one : {u : List ℕ} → Arrangement s u → (k : ℕ) → k < s .boards * s .boards → One (getD u k 0)
-  arrangement-one {u} a k h = from (place (s .boards) k h)
-    where
-      from : (p : ℕ) × (q : ℕ) × (p < s .boards) × (q < s .boards) × (k ≡ s .boards * p + q) → One (getD u k 0)
-      from m =
-          let o = a .single (m .0) (m .1) (m .2) (m .3) in (o .0, o .1, ap (λ (j : ℕ). getD u j 0) (m .4) ∙ o .2)
+  arrangement-one {u} a k h =
+      each-place (λ k. One (getD u k 0)) (a .table) (a .single) k (subst (λ (n : ℕ). k < n) (sym (a .table .cells)) h)
 
   -- no cell of an arrangement is empty
   arrangement-whole : {u : List ℕ} → Arrangement s u → T (emptied u) → ⊥
@@ -159,9 +155,7 @@ module _ {s : Sheet} (f : WellFormed s) {clo : List ℕ → List ℕ} (closes : 
 
     singles : Singles s t
     singles p q hp hq =
-        ⊎-elim (λ l. upper p q (ltb→lt p q l) hq)
-        (λ n. ⊎-elim (λ l. lower p q (ltb→lt q p l) hp)
-        (λ m. middle p q (le-antisymm (nltb→le q p m) (nltb→le p q n)) hp) (T-decide (ltb q p))) (T-decide (ltb p q))
+        ⊎-elim (λ l. upper p q l hq) (λ d. ⊎-elim (λ l. lower p q l hp) (λ e. middle p q e hp) d) (order-cases p q)
 
     ready-arrangement : Arrangement s t
     ready-arrangement = closed-arrangement f (r .table) (r .closed) singles

@@ -2,8 +2,8 @@
 use mathlib.Core.Path.{_≡_, refl, sym, _∙_, subst}
 use mathlib.Core.Bool.{Bool, true, false}
 use mathlib.Core.List.{List, [], _∷_}
-use Prim.Native.Nat.{ℕ, zero, suc, _+_, _*_, _≤_, _<_}
-use native.Mathlib.Nat.{not-suc-le-zero, suc-inj, suc-ne-zero, mul-le-mul-left, mul-suc}
+use Prim.Native.Nat.{ℕ, zero, suc, _+_, _*_, _/_, _%_, _≤_, _<_}
+use native.Mathlib.Nat.{not-suc-le-zero, suc-inj, suc-ne-zero, mul-le-mul-left, mul-suc, mod-lt, div-add-mod, div-lt-iff-lt-mul}
 use native.Mathlib.Omega.{arith}
 use lib.Dec.{T, eqb, eqb→eq}
 use lib.ListN.{length, getD}
@@ -16,6 +16,19 @@ use Rattle.rules.proofs.Sets.{⊆-refl, ⊆-trans, ⊆-antisym, ⊆-zer
 -- cell (p, q) is one of the table's
 pub in-range : (v p q : ℕ) → p < v → q < v → v * p + q < v * v
 in-range v p q h k = omega (arith, mul-le-mul-left v h, mul-suc v p)
+
+place : (v k : ℕ) → k < v * v → (p : ℕ) × (q : ℕ) × (p < v) × (q < v) × (k ≡ v * p + q)
+place zero k h = let z : ⊥ = omega arith in absurd z
+place (suc n) k h =
+    let v : ℕ = suc n in
+    (k / v, k % v, div-lt-iff-lt-mul {k = v} (omega arith) .1 h, mod-lt k {m = v} (omega arith), sym (div-add-mod k v))
+
+-- what holds of each cell (p, q) holds of each place of the table
+pub each-place : (P : ℕ → Type 0) {v : ℕ} {t : List ℕ} → Table v t → ((p q : ℕ) → p < v → q < v → P (v * p + q)) → (k : ℕ) → k < length t → P k
+each-place P {v} {t} h f k l = from (place v k (subst (λ (n : ℕ). k < n) (h .cells) l))
+  where
+    from : (p : ℕ) × (q : ℕ) × (p < v) × (q < v) × (k ≡ v * p + q) → P k
+    from m = subst P (sym (m .4)) (f (m .0) (m .1) (m .2) (m .3))
 
 pub inside-refl : (t : List ℕ) → Inside t t
 inside-refl t = record { cells = refl; each = λ k. ⊆-refl (getD t k 0) }

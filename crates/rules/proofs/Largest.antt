@@ -4,8 +4,8 @@ use mathlib.Core.Path.{_≡_, refl, sym, ap, _∙_, subst}
 use mathlib.Core.Bool.{Bool, true, false, not}
 use mathlib.Core.Logic.{⊎-elim}
 use mathlib.Core.List.{List, [], _∷_, List·Memᴰ·head, List·Memᴰ·tail, List·Memᴰ·not-nil, List·Memᴰ·cases-cons}
-use Prim.Native.Nat.{ℕ, zero, suc, _+_, _*_, _/_, _%_, _≤_, _<_}
-use native.Mathlib.Nat.{not-suc-le-zero, mod-lt, div-add-mod, div-lt-iff-lt-mul}
+use Prim.Native.Nat.{ℕ, zero, suc, _+_, _*_, _≤_, _<_}
+use native.Mathlib.Nat.{not-suc-le-zero}
 use native.Mathlib.Omega.{arith}
 use lib.Pow.{pow-pos}
 use lib.Dec.{T, eqb, ltb, eqb→eq, eqb-refl, ltb→lt, nltb→le, T-not}
@@ -20,7 +20,7 @@ use Rattle.rules.proofs.Tests.{true-T, T-decide}
 use Rattle.rules.proofs.Sets.{⊆-refl, ⊆-trans, ⊆-zero, zero-⊆, meet-small, meet-left, meet-right, meet-largest}
 use Rattle.rules.proofs.Composition.{converse-zero, compose-zero-left}
 use Rattle.rules.proofs.Members.{All}
-use Rattle.rules.proofs.Inside.{inside-refl, inside-trans, inside-antisym, total-mono, total-tight, emptied-out}
+use Rattle.rules.proofs.Inside.{each-place, inside-refl, inside-trans, inside-antisym, total-mono, total-tight, emptied-out}
 use Rattle.rules.proofs.Rules.{Grows, rules-grow, closed-idle, idle-closed}
 
 -- ---- one strike
@@ -198,13 +198,6 @@ blank-closed s =
     idle-closed s (blank (s .boards)) (blank-table (s .boards))
     (λ r m. subst (λ (x : ℕ). x ⊆ r .bound (blank (s .boards))) (sym (blank-at (s .boards) (s .boards * r .row + r .column))) (zero-⊆ (r .bound (blank (s .boards)))))
 
--- each place of a table is a cell
-pub place : (v k : ℕ) → k < v * v → (p : ℕ) × (q : ℕ) × (p < v) × (q < v) × (k ≡ v * p + q)
-place zero k h = let z : ⊥ = omega arith in absurd z
-place (suc n) k h =
-    let v : ℕ = suc n in
-    (k / v, k % v, div-lt-iff-lt-mul {k = v} (omega arith) .1 h, mod-lt k {m = v} (omega arith), sym (div-add-mod k v))
-
 module _ {s : Sheet} {t : List ℕ} (h : Table (s .boards) t) (c : Closed s t) where
   -- an empty cell empties its row, its column and every cell
   empty-row : (p q r : ℕ) → p < s .boards → q < s .boards → r < s .boards → cell (s .boards) t p q ≡ 0 → cell (s .boards) t p r ≡ 0
@@ -221,22 +214,15 @@ module _ {s : Sheet} {t : List ℕ} (h : Table (s .boards) t) (c : Closed s t) w
   empty-all p q hp hq e x y hx hy =
       empty-row x p y hx hp hy (empty-turn p x hp hx (empty-row p q x hp hq hx e))
 
-  -- what holds of the empty cell holds of every place
-  empty-place : (p q : ℕ) → p < s .boards → q < s .boards → cell (s .boards) t p q ≡ 0 → (k : ℕ) → k < length t → getD t k 0 ≡ 0
-  empty-place p q hp hq e k l = at (place (s .boards) k (subst (λ (n : ℕ). k < n) (h .cells) l))
-    where
-      at : (x : ℕ) × (y : ℕ) × (x < s .boards) × (y < s .boards) × (k ≡ s .boards * x + y) → getD t k 0 ≡ 0
-      at m = ap (λ (j : ℕ). getD t j 0) (m .4) ∙ empty-all p q hp hq e (m .0) (m .1) (m .2) (m .3)
-
   -- a closed table with an empty cell is all-empty
   pub closed-emptied : T (emptied t) → t ≡ blank (s .boards)
   unfolding blank
-  closed-emptied e = all (emptied-out t e)
+  closed-emptied e = from (emptied-out t e)
     where
-      all : (k : ℕ) × (k < length t) × (getD t k 0 ≡ 0) → t ≡ blank (s .boards)
-      all m = from (place (s .boards) (m .0) (subst (λ (n : ℕ). m .0 < n) (h .cells) (m .1)))
-        where
-          from : (p : ℕ) × (q : ℕ) × (p < s .boards) × (q < s .boards) × (m .0 ≡ s .boards * p + q) → t ≡ blank (s .boards)
-          from n =
-              ext-getD 0 t (blank (s .boards)) (h .cells ∙ sym (length-replicate (s .boards * s .boards) 0))
-              (λ k l. empty-place (n .0) (n .1) (n .2) (n .3) (ap (λ (j : ℕ). getD t j 0) (sym (n .4)) ∙ m .2) k l ∙ sym (blank-at (s .boards) k))
+      all : (p q : ℕ) → p < s .boards → q < s .boards → cell (s .boards) t p q ≡ 0 → t ≡ blank (s .boards)
+      all p q hp hq e =
+          ext-getD 0 t (blank (s .boards)) (h .cells ∙ sym (length-replicate (s .boards * s .boards) 0))
+          (λ k l. each-place (λ k. getD t k 0 ≡ 0) h (empty-all p q hp hq e) k l ∙ sym (blank-at (s .boards) k))
+
+      from : (k : ℕ) × (k < length t) × (getD t k 0 ≡ 0) → t ≡ blank (s .boards)
+      from m = each-place (λ k. getD t k 0 ≡ 0 → t ≡ blank (s .boards)) h all (m .0) (m .1) (m .2)

@@ -5,9 +5,8 @@ use mathlib.Core.Bool.{not}
 use mathlib.Core.Logic.{_⊎_, inl, inr, ⊎-elim}
 use mathlib.Core.List.{List, [], _∷_, List·Memᴰ, List·Memᴰ·head, List·Memᴰ·tail, List·Memᴰ·not-nil, List·Memᴰ·cases-cons}
 use Prim.Native.Nat.{ℕ, _+_, _*_, _<_}
-use native.Mathlib.Nat.{le-antisymm}
 use native.Mathlib.Omega.{arith}
-use lib.Dec.{T, ltb, ltb→lt, nltb→le, T-not}
+use lib.Dec.{T, T-not}
 use lib.ListN.{getD}
 use lib.Seq.{ext-getD}
 use Rattle.rules.specs.Relations.{has, converse}
@@ -15,10 +14,10 @@ use Rattle.rules.specs.Descriptions.{Sheet}
 use Rattle.rules.specs.Tables.{at}
 use Rattle.rules.specs.Arrangements.{Arrangement}
 use Rattle.rules.specs.Search.{Order, places, rank, Before}
-use Rattle.rules.proofs.Tests.{T-decide}
+use Rattle.rules.proofs.Tests.{order-cases, T-decide}
 use Rattle.rules.proofs.Digits.{has-single}
 use Rattle.rules.proofs.Members.{All}
-use Rattle.rules.proofs.Largest.{place}
+use Rattle.rules.proofs.Inside.{each-place}
 use Rattle.rules.proofs.Arrangements.{One, one-has}
 use Rattle.rules.proofs.Choices.{Agree, places-in, all-places, rank-here, rank-later}
 
@@ -35,18 +34,12 @@ module _ {s : Sheet} {t u : List ℕ} (a : Arrangement s t) (b : Arrangement s u
 
   cells : (p q : ℕ) → p < s .boards → q < s .boards → at s t p q ≡ at s u p q
   cells p q hp hq =
-      ⊎-elim (λ l. upper p q (ltb→lt p q l) hq)
-      (λ n. ⊎-elim
-      (λ l. a .rule2 q p hq hp ∙ ap converse (upper q p (ltb→lt q p l) hp) ∙ sym (b .rule2 q p hq hp))
-      (λ m.
-      subst (λ (x : ℕ). at s t p x ≡ at s u p x) (le-antisymm (nltb→le q p m) (nltb→le p q n))
-      (a .rule1 p hp ∙ sym (b .rule1 p hp))) (T-decide (ltb q p))) (T-decide (ltb p q))
+      ⊎-elim (λ l. upper p q l hq)
+      (λ d. ⊎-elim (λ l. a .rule2 q p hq hp ∙ ap converse (upper q p l hp) ∙ sym (b .rule2 q p hq hp))
+      (λ e. subst (λ (x : ℕ). at s t p x ≡ at s u p x) e (a .rule1 p hp ∙ sym (b .rule1 p hp))) d) (order-cases p q)
 
   pub agree-equal : t ≡ u
-  agree-equal = ext-getD 0 t u (a .table .cells ∙ sym (b .table .cells)) (λ k h. from k (place (s .boards) k (subst (λ (n : ℕ). k < n) (a .table .cells) h)))
-    where
-      from : (k : ℕ) → (p : ℕ) × (q : ℕ) × (p < s .boards) × (q < s .boards) × (k ≡ s .boards * p + q) → getD t k 0 ≡ getD u k 0
-      from k m = subst (λ (j : ℕ). getD t j 0 ≡ getD u j 0) (sym (m .4)) (cells (m .0) (m .1) (m .2) (m .3))
+  agree-equal = ext-getD 0 t u (a .table .cells ∙ sym (b .table .cells)) (each-place (λ k. getD t k 0 ≡ getD u k 0) (a .table) cells)
 
 -- ---- single relations are told apart by their places in an order
 
@@ -77,18 +70,12 @@ module _ {ord : List ℕ} (order : Order ord) where
   unfolding Before
   compare [] t u a b = inr (inl tt)
   compare (k ∷ ks) t u a b =
-      ⊎-elim (λ l. inl (inl (ltb→lt x y l)))
-      (λ n. ⊎-elim (λ l. inr (inr (inl (ltb→lt y x l))))
-      (λ m. next (rank-equal (a k (List·Memᴰ·head refl)) (b k (List·Memᴰ·head refl)) (le-antisymm (nltb→le y x m) (nltb→le x y n)))
-      (compare ks t u (λ j i. a j (List·Memᴰ·tail i)) (λ j i. b j (List·Memᴰ·tail i))))
-      (T-decide (ltb y x))) (T-decide (ltb x y))
+      ⊎-elim (λ l. inl (inl l))
+      (λ d. ⊎-elim (λ l. inr (inr (inl l)))
+      (λ e. next (rank-equal (a k (List·Memᴰ·head refl)) (b k (List·Memᴰ·head refl)) e)
+      (compare ks t u (λ j i. a j (List·Memᴰ·tail i)) (λ j i. b j (List·Memᴰ·tail i)))) d)
+      (order-cases (rank ord (getD t k 0)) (rank ord (getD u k 0)))
     where
-      x : ℕ
-      x = rank ord (getD t k 0)
-
-      y : ℕ
-      y = rank ord (getD u k 0)
-
       next : getD t k 0 ≡ getD u k 0 → Before ord ks t u ⊎ (Agree ks t u ⊎ Before ord ks u t)
           → Before ord (k ∷ ks) t u ⊎ (Agree (k ∷ ks) t u ⊎ Before ord (k ∷ ks) u t)
       next e (inl d) = inl (inr (e, d))

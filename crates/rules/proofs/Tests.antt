@@ -1,11 +1,11 @@
 -- Tests: what they say together, and what a test says of the numbers below n: some pass, each passes, so many pass. Assumes nothing.
 use mathlib.Core.Path.{_≡_, refl, sym, subst}
 use mathlib.Core.Bool.{Bool, true, false, not, _&&_, _||_}
-use mathlib.Core.Logic.{_⊎_, inl, inr}
+use mathlib.Core.Logic.{_⊎_, inl, inr, ⊎-elim}
 use Prim.Native.Nat.{ℕ, zero, suc, _≤_, _<_}
-use native.Mathlib.Nat.{not-suc-le-zero, le-of-suc-le-suc, eq-or-lt-of-le}
+use native.Mathlib.Nat.{not-suc-le-zero, le-of-suc-le-suc, eq-or-lt-of-le, le-antisymm}
 use native.Mathlib.Omega.{arith}
-use lib.Dec.{T, eqb, eqb→eq, eqb-refl, T-not, not-T}
+use lib.Dec.{T, eqb, eqb→eq, eqb-refl, T-not, not-T, ltb, ltb→lt, nltb→le}
 use Rattle.rules.specs.Relations.{someBelow, eachBelow, countBelow}
 
 -- ---- tests
@@ -64,6 +64,13 @@ differ-T {i} {j} n = not-T (eqb i j) (λ e. n (eqb→eq i j e))
 
 pub T-differ : {i j : ℕ} → T (not (eqb i j)) → i ≡ j → ⊥
 T-differ {i} {j} t e = T-not (eqb i j) t (subst (λ (k : ℕ). T (eqb i k)) e (eqb-refl i))
+
+-- of two numbers one is below the other, or they are equal
+pub order-cases : (m n : ℕ) → (m < n) ⊎ ((n < m) ⊎ (m ≡ n))
+order-cases m n =
+    ⊎-elim (λ l. inl (ltb→lt m n l))
+    (λ a. ⊎-elim (λ l. inr (inl (ltb→lt n m l))) (λ b. inr (inr (le-antisymm (nltb→le n m b) (nltb→le m n a)))) (T-decide (ltb n m)))
+    (T-decide (ltb m n))
 
 -- ---- tests over the numbers below n
 

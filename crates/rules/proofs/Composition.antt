@@ -1,17 +1,13 @@
 -- Composition and converse of sets: E is neutral, the converse of a composition, monotone in both arguments, the empty set. Monotony is by
 -- membership; the equations are each one test that antt computes over all sets or pairs of sets. Assumes nothing.
 use mathlib.Core.Path.{_≡_, refl, subst}
-use mathlib.Core.Bool.{Bool, _&&_}
+use mathlib.Core.Bool.{_&&_}
 use Prim.Native.Nat.{ℕ, _^_, _<_}
 use lib.Dec.{T, eqb, ltb, eqb→eq, ltb→lt}
 use Rattle.rules.specs.Relations.{someBelow, eachBelow, relations, sets, E, has, setTo, setOf, opposite, converse, singles, composed, compose, _⊆_}
 use Rattle.rules.proofs.Tests.{and-T, T-and-left, T-and-right, some-in, some-out, each-at}
 use Rattle.rules.proofs.Digits.{has-zero}
 use Rattle.rules.proofs.Sets.{setOf-small, setOf-in, setOf-out, ⊆-zero}
-
--- a test that passes at each set below n passes at x
-at : (f : ℕ → Bool) → T (eachBelow sets f) → (x : ℕ) → x < sets → T (f x)
-at f t x h = each-at sets f t x h
 
 -- ---- converse
 
@@ -35,7 +31,7 @@ converse-mono {x} {y} s =
 
 pub converse-converse : (x : ℕ) → x < sets → converse (converse x) ≡ x
 unfolding relations has setTo setOf opposite converse
-converse-converse x h = eqb→eq (converse (converse x)) x (at (λ x. eqb (converse (converse x)) x) tt x h)
+converse-converse x h = eqb→eq (converse (converse x)) x (each-at sets (λ x. eqb (converse (converse x)) x) tt x h)
 
 pub converse-single : (r : ℕ) → r < relations → converse (2 ^ r) ≡ 2 ^ opposite r
 unfolding relations has setTo setOf opposite converse
@@ -119,19 +115,19 @@ compose-zero-right x = ⊆-zero (compose-small x 0) (record { member = λ t h u.
 -- E is neutral
 pub compose-E-left : (x : ℕ) → x < sets → compose E x ≡ x
 unfolding relations has setTo setOf singles composed compose
-compose-E-left x h = eqb→eq (compose E x) x (at (λ x. eqb (compose E x) x) tt x h)
+compose-E-left x h = eqb→eq (compose E x) x (each-at sets (λ x. eqb (compose E x) x) tt x h)
 
 pub compose-E-right : (x : ℕ) → x < sets → compose x E ≡ x
 unfolding relations has setTo setOf singles composed compose
-compose-E-right x h = eqb→eq (compose x E) x (at (λ x. eqb (compose x E) x) tt x h)
+compose-E-right x h = eqb→eq (compose x E) x (each-at sets (λ x. eqb (compose x E) x) tt x h)
 
 -- the converse of a composition is that of the converses, the other way round
 pub converse-compose : (x y : ℕ) → x < sets → y < sets → converse (compose x y) ≡ compose (converse y) (converse x)
 unfolding relations has setTo setOf opposite converse singles composed compose
 converse-compose x y h k =
     eqb→eq (converse (compose x y)) (compose (converse y) (converse x))
-    (at (λ y. eqb (converse (compose x y)) (compose (converse y) (converse x)))
-    (at (λ x. eachBelow sets (λ y. eqb (converse (compose x y)) (compose (converse y) (converse x)))) tt x h) y k)
+    (each-at sets (λ y. eqb (converse (compose x y)) (compose (converse y) (converse x)))
+    (each-at sets (λ x. eachBelow sets (λ y. eqb (converse (compose x y)) (compose (converse y) (converse x)))) tt x h) y k)
 
 -- the composition of two single relations is what the table of sixteen says
 pub compose-single : (r s : ℕ) → r < relations → s < relations → compose (2 ^ r) (2 ^ s) ≡ composed r s

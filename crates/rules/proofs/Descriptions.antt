@@ -4,14 +4,13 @@ use mathlib.Core.Bool.{Bool, true, false, _&&_}
 use mathlib.Core.Logic.{⊎-elim}
 use mathlib.Core.List.{List, [], _∷_, List·Memᴰ, List·Memᴰ·not-nil, List·Memᴰ·cases-cons}
 use Prim.Native.Nat.{ℕ, zero, suc, _≤_, _<_}
-use native.Mathlib.Nat.{not-suc-le-zero}
 use native.Mathlib.Omega.{arith}
 use lib.Dec.{T, leb, ltb, leb→le, ltb→lt}
 use lib.ListN.{length, getD, take, drop, length-take}
 use Rattle.rules.specs.Expressions.{Value, value, malformed, expression}
 use Rattle.rules.specs.Descriptions.{mostBoards, mostLines, mostKinds, mostWords, mostWays, RelationLine, KindLine, Sheet, WellFormed, Reading, good, refused, Front, need, next, meaning, relationLine, boardsOnly, kindLine, section, numbersFit, offsetsFit, relationLines, kindLines, read}
 use Rattle.rules.proofs.Tests.{T-and-left, T-and-right}
-use Rattle.rules.proofs.Members.{All}
+use Rattle.rules.proofs.Members.{All, each-of-out, member-at}
 
 -- ---- what a good reading passed
 
@@ -82,9 +81,7 @@ relationLine-out v (p ∷ q ∷ n ∷ ws) l e =
         )
 
 boardsOnly-out : (v : ℕ) (ys : List ℕ) → T (boardsOnly v ys) → (i : ℕ) → i < length ys → getD ys i 0 < v
-boardsOnly-out v [] t i h = absurd (not-suc-le-zero h)
-boardsOnly-out v (y ∷ ys) t zero h = ltb→lt y v (T-and-left (ltb y v) (boardsOnly v ys) t)
-boardsOnly-out v (y ∷ ys) t (suc i) h = boardsOnly-out v ys (T-and-right (ltb y v) (boardsOnly v ys) t) i (omega arith)
+boardsOnly-out v ys t i h = ltb→lt (getD ys i 0) v (each-of-out (λ y. ltb y v) ys t (getD ys i 0) (member-at ys i h))
 
 -- the boards of a kind line
 abbrev Kind : ℕ → KindLine → Type 0

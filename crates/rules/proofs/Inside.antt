@@ -1,16 +1,15 @@
 -- Tables inside tables: an order, in which fewer relations in all means some relation less. Assumes nothing.
 use mathlib.Core.Path.{_≡_, refl, sym, _∙_, subst}
-use mathlib.Core.Bool.{Bool, true, false}
 use mathlib.Core.List.{List, [], _∷_}
 use Prim.Native.Nat.{ℕ, zero, suc, _+_, _*_, _/_, _%_, _≤_, _<_}
-use native.Mathlib.Nat.{not-suc-le-zero, suc-inj, suc-ne-zero, mul-le-mul-left, mul-suc, mod-lt, div-add-mod, div-lt-iff-lt-mul}
+use native.Mathlib.Nat.{suc-inj, suc-ne-zero, mul-le-mul-left, mul-suc, mod-lt, div-add-mod, div-lt-iff-lt-mul}
 use native.Mathlib.Omega.{arith}
 use lib.Dec.{T, eqb, eqb→eq}
 use lib.ListN.{length, getD}
 use lib.Seq.{ext-getD}
 use Rattle.rules.specs.Relations.{_⊆_}
 use Rattle.rules.specs.Tables.{Table, Inside, emptied, total}
-use Rattle.rules.proofs.Tests.{true-T}
+use Rattle.rules.proofs.Members.{some-of-in, some-of-out, member-at, at-member}
 use Rattle.rules.proofs.Sets.{⊆-refl, ⊆-trans, ⊆-antisym, ⊆-zero, size-mono, size-tight}
 
 -- cell (p, q) is one of the table's
@@ -68,29 +67,14 @@ total-tight {v} {t} {u} a b h l =
 
 pub emptied-out : (t : List ℕ) → T (emptied t) → (k : ℕ) × (k < length t) × (getD t k 0 ≡ 0)
 unfolding emptied
-emptied-out [] e = absurd e
-emptied-out (x ∷ xs) e = go (eqb x 0) refl e (emptied-out xs)
-  where
-    go : (b : Bool) → eqb x 0 ≡ b → T (elim b [ true ↦ true | false ↦ emptied xs ])
-        → (T (emptied xs) → (k : ℕ) × (k < length xs) × (getD xs k 0 ≡ 0))
-        → (k : ℕ) × (k < suc (length xs)) × (getD (x ∷ xs) k 0 ≡ 0)
-    go true d e f = (0, omega arith, eqb→eq x 0 (true-T d))
-    go false d e f =
-        let r : (k : ℕ) × (k < length xs) × (getD xs k 0 ≡ 0) = f e in let l : r .0 < length xs = r .1 in (suc (r .0), omega arith, r .2)
+emptied-out t e =
+    let m = some-of-out (λ x. eqb x 0) t e in
+    let r = at-member t (m .0) (m .1) in
+    (r .0, r .1, r .2 ∙ eqb→eq (m .0) 0 (m .2))
 
 pub emptied-in : (t : List ℕ) (k : ℕ) → k < length t → getD t k 0 ≡ 0 → T (emptied t)
 unfolding emptied
-emptied-in [] k h e = absurd (not-suc-le-zero h)
-emptied-in (x ∷ xs) zero h e = go (eqb x 0) (subst (λ (y : ℕ). T (eqb y 0)) (sym e) tt)
-  where
-    go : (b : Bool) → T b → T (elim b [ true ↦ true | false ↦ emptied xs ])
-    go true t = tt
-    go false t = absurd t
-emptied-in (x ∷ xs) (suc k) h e = go (eqb x 0) (emptied-in xs k (omega arith) e)
-  where
-    go : (b : Bool) → T (emptied xs) → T (elim b [ true ↦ true | false ↦ emptied xs ])
-    go true t = tt
-    go false t = t
+emptied-in t k h e = some-of-in (λ x. eqb x 0) t (getD t k 0) (member-at t k h) (subst (λ (y : ℕ). T (eqb y 0)) (sym e) tt)
 
 -- a table inside one with an empty cell has one
 pub emptied-inside : {v : ℕ} {t u : List ℕ} → Table v t → Inside t u → T (emptied u) → T (emptied t)

@@ -1,11 +1,16 @@
 -- What holds of each member of a list that is made from other lists. Assumes nothing.
 use mathlib.Core.Path.{_≡_, refl, sym, subst}
-use mathlib.Core.Logic.{⊎-elim}
+use mathlib.Core.Bool.{Bool, true, false}
+use mathlib.Core.Logic.{_⊎_, inl, inr, ⊎-elim}
 use mathlib.Core.List.{List, [], _∷_, _++_, flatMap, List·Memᴰ, List·Memᴰ·head, List·Memᴰ·tail, List·Memᴰ·not-nil, List·Memᴰ·cases-cons, List·Memᴰ·append-cases, List·Memᴰ·eq-of-singleton, Memᴰ·append-left, Memᴰ·append-right}
 use Prim.Native.Nat.{ℕ, zero, suc, _+_, _≤_, _<_}
-use native.Mathlib.Nat.{eq-or-lt-of-le}
+use native.Mathlib.Nat.{eq-or-lt-of-le, not-suc-le-zero, le-of-suc-le-suc}
 use native.Mathlib.Omega.{arith}
+use lib.Dec.{T}
+use lib.ListN.{length, getD}
+use Rattle.rules.specs.Relations.{someOf, eachOf}
 use Rattle.rules.specs.Tables.{range, upTo}
+use Rattle.rules.proofs.Tests.{true-T}
 
 module _ {A : Type 0} (P : A → Type 0) where
   -- P holds of each member of the list
@@ -42,6 +47,61 @@ module _ {A : Type 0} (P : A → Type 0) where
     over-all (c ∷ bs) h b m =
         ⊎-elim (λ (e : b ≡ c). subst (λ (d : B). All (f d)) (sym e) (append-left (f c) (flatMap f bs) h))
         (λ n. over-all bs (append-right (f c) (flatMap f bs) h) b n) (List·Memᴰ·cases-cons m)
+
+-- ---- tests of each element
+
+module _ {A : Type 0} (f : A → Bool) where
+  pub each-of-out : (xs : List A) → T (eachOf f xs) → All (λ x. T (f x)) xs
+  each-of-out [] t = all-none (λ x. T (f x))
+  each-of-out (a ∷ xs) t = go (f a) refl t (λ u. each-of-out xs u)
+    where
+      go : (b : Bool) → f a ≡ b → T (elim b [ true ↦ eachOf f xs | false ↦ false ]) → (T (eachOf f xs) → All (λ x. T (f x)) xs)
+          → All (λ x. T (f x)) (a ∷ xs)
+      go true e t h = λ x m. ⊎-elim (λ (d : x ≡ a). subst (λ (y : A). T (f y)) (sym d) (true-T e)) (h t x) (List·Memᴰ·cases-cons m)
+      go false e t h = absurd t
+
+  pub each-of-in : (xs : List A) → All (λ x. T (f x)) xs → T (eachOf f xs)
+  each-of-in [] h = tt
+  each-of-in (a ∷ xs) h = go (f a) (h a (List·Memᴰ·head refl)) (each-of-in xs (λ x m. h x (List·Memᴰ·tail m)))
+    where
+      go : (b : Bool) → T b → T (eachOf f xs) → T (elim b [ true ↦ eachOf f xs | false ↦ false ])
+      go true s t = t
+      go false s t = s
+
+  pub some-of-out : (xs : List A) → T (someOf f xs) → (x : A) × List·Memᴰ x xs × T (f x)
+  some-of-out [] t = absurd t
+  some-of-out (a ∷ xs) t = go (f a) refl t (λ u. some-of-out xs u)
+    where
+      go : (b : Bool) → f a ≡ b → T (elim b [ true ↦ true | false ↦ someOf f xs ]) → (T (someOf f xs) → (x : A) × List·Memᴰ x xs × T (f x))
+          → (x : A) × List·Memᴰ x (a ∷ xs) × T (f x)
+      go true e t h = (a, List·Memᴰ·head refl, true-T e)
+      go false e t h = let r = h t in (r .0, List·Memᴰ·tail (r .1), r .2)
+
+  pub some-of-in : (xs : List A) (x : A) → List·Memᴰ x xs → T (f x) → T (someOf f xs)
+  some-of-in [] x m t = absurd (List·Memᴰ·not-nil m)
+  some-of-in (a ∷ xs) x m t = go (f a) (someOf f xs) (List·Memᴰ·cases-cons m) (λ e. subst (λ (y : A). T (f y)) e t) (λ n. some-of-in xs x n t)
+    where
+      go : (b c : Bool) → (x ≡ a) ⊎ List·Memᴰ x xs → (x ≡ a → T b) → (List·Memᴰ x xs → T c) → T (elim b [ true ↦ true | false ↦ c ])
+      go true c d g h = tt
+      go false c (inl e) g h = absurd (g e)
+      go false c (inr n) g h = h n
+
+-- the members of a list are what stands at its places
+pub member-at : (xs : List ℕ) (k : ℕ) → k < length xs → List·Memᴰ (getD xs k 0) xs
+member-at [] k h = absurd (not-suc-le-zero h)
+member-at (x ∷ xs) zero h = List·Memᴰ·head refl
+member-at (x ∷ xs) (suc k) h = List·Memᴰ·tail (member-at xs k (le-of-suc-le-suc h))
+
+pub at-member : (xs : List ℕ) (x : ℕ) → List·Memᴰ x xs → (k : ℕ) × (k < length xs) × (getD xs k 0 ≡ x)
+at-member [] x m = absurd (List·Memᴰ·not-nil m)
+at-member (y ∷ xs) x m = go (List·Memᴰ·cases-cons m) (λ n. at-member xs x n)
+  where
+    go : (x ≡ y) ⊎ List·Memᴰ x xs → (List·Memᴰ x xs → (k : ℕ) × (k < length xs) × (getD xs k 0 ≡ x))
+        → (k : ℕ) × (k < suc (length xs)) × (getD (y ∷ xs) k 0 ≡ x)
+    go (inl e) f = (0, omega arith, sym e)
+    go (inr n) f = let r = f n in let l : r .0 < length xs = r .1 in (suc (r .0), omega arith, r .2)
+
+-- ---- ranges of numbers
 
 pub range-in : (n i j : ℕ) → i ≤ j → j < i + n → List·Memᴰ j (range i n)
 range-in zero i j h k = let z : ⊥ = omega arith in absurd z

@@ -1,7 +1,7 @@
 -- Each of the cases holds of the definitions, those that 01 marks P among them, by computing.
 -- Assumes nothing.
 use mathlib.Core.Path.{refl}
-use mathlib.Core.List.{flatMap}
+use mathlib.Core.List.{flatMap, flatten}
 use Rattle.rules.specs.Relations.{relations, has, setTo, setOf, full, meet, join, complement, within, size, opposite, converse, singles, composed, compose}
 use Rattle.rules.specs.Expressions.{codes, code, follow, evaluate, expression}
 use Rattle.rules.specs.Descriptions.{relationLine, kindLine, section, numbersFit, offsetsFit, relationLines, kindLines, read}
@@ -15,11 +15,11 @@ pub shown : AllHold cases
 unfolding relations has setTo setOf full meet join complement within size opposite converse singles composed compose codes code
     follow evaluate expression relationLine kindLine section numbersFit offsetsFit relationLines kindLines read emptied
     total reaches agree bound6 bound6′ bound7 bound7′ rules1 rules2 rules3 rules4 rules5 rules6 rules7 rules strike sweep
-    sweeps closing attempt choose places search cap wellFormed reading close searching arranged check flatMap
+    sweeps closing attempt choose places search cap wellFormed reading close searching arranged check flatMap flatten
 shown =
     refl also refl also refl also refl also refl also refl also refl also refl also refl also refl
     also refl also refl also refl also refl also refl also refl also refl also refl also refl also refl
     also refl also refl also refl also refl also refl also refl also refl also refl also refl also refl
     also refl also refl also refl also refl also refl also refl also refl also refl also refl also refl
     also refl also refl also refl also refl also refl also refl also refl also refl also refl also refl
-    also refl also done
+    also refl also refl also done

@@ -1,11 +1,11 @@
 -- What each call answers and leaves (01, 'Refusal numbers'), for whatever it is lent.
 -- Assumes nothing.
 use mathlib.Core.Bool.{Bool, true, false, _&&_}
-use mathlib.Core.List.{List, [], _∷_}
+use mathlib.Core.List.{List}
 use Prim.Native.Nat.{ℕ, _*_}
 use lib.Dec.{leb, ltb, eqb}
 use lib.ListN.{length, replicate}
-use Rattle.rules.specs.Relations.{sets, full, size, within}
+use Rattle.rules.specs.Relations.{eachOf, sets, full, size, within}
 use Rattle.rules.specs.Descriptions.{Sheet, good, refused, read, mostBoards}
 use Rattle.rules.specs.Tables.{cell, emptied}
 use Rattle.rules.specs.Closed.{strikes}
@@ -25,14 +25,9 @@ refuse n c t = record { number = n; count = c; table = t }
 abbrev pub succeed : ℕ → List ℕ → Outcome
 succeed c t = record { number = 0; count = c; table = t }
 
--- each number is a set of relations
-abbrev pub setsOnly : List ℕ → Bool
-setsOnly [] = true
-setsOnly (x ∷ xs) = elim (ltb x sets) [ true ↦ setsOnly xs | false ↦ false ]
-
 -- 6: the table hasn't V times V cells, or a cell is above 15
 unfoldable pub wellFormed : ℕ → List ℕ → Bool
-wellFormed v t = eqb (length t) (v * v) && setsOnly t
+wellFormed v t = eqb (length t) (v * v) && eachOf (λ x. ltb x sets) t
 
 -- 1 to 5 and then 6 come before the rest
 abbrev pub given : List ℕ → List ℕ → (Sheet → Outcome) → Outcome
@@ -68,19 +63,13 @@ answer t (ranOut b) = refuse 9 b t
 unfoldable pub searching : List ℕ → List ℕ → List ℕ → ℕ → Outcome
 searching ord ws t b = given ws t (λ s. answer t (cap b (search (closing s) ord (s .boards) t)))
 
--- every cell is a single relation
-abbrev pub singlesOnly : List ℕ → Bool
-singlesOnly [] = true
-singlesOnly (x ∷ xs) = elim (eqb (size x) 1) [ true ↦ singlesOnly xs | false ↦ false ]
+-- the rule strikes nothing, as a test
+abbrev pub idle : ℕ → List ℕ → Rule → Bool
+idle v t r = within (cell v t (r .row) (r .column)) (r .bound t)
 
--- no rule strikes anything
-abbrev pub idle : ℕ → List ℕ → List Rule → Bool
-idle v t [] = true
-idle v t (r ∷ rs) = elim (within (cell v t (r .row) (r .column)) (r .bound t)) [ true ↦ idle v t rs | false ↦ false ]
-
--- the table is an arrangement
+-- the table is an arrangement: every cell is a single relation, and no rule strikes anything
 unfoldable pub arranged : Sheet → List ℕ → Bool
-arranged s t = singlesOnly t && idle (s .boards) t (rules s)
+arranged s t = eachOf (λ x. eqb (size x) 1) t && eachOf (idle (s .boards) t) (rules s)
 
 -- the check says yes exactly if the table is an arrangement: 10 where it is none
 unfoldable pub check : List ℕ → List ℕ → Outcome

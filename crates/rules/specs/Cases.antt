@@ -1,7 +1,7 @@
 -- The sites to try that 01 marks P, as one table, with a few more behind them. `describe` writes a description from the words of its lines.
 -- Assumes nothing.
 use mathlib.Core.Path.{_≡_}
-use mathlib.Core.List.{List, [], _∷_, _++_}
+use mathlib.Core.List.{List, [], _∷_, _++_, flatten}
 use Prim.Native.Nat.{ℕ, _+_, _*_}
 use lib.ListN.{length, replicate}
 use Rattle.rules.specs.Relations.{same, above, below, side, full, compose}
@@ -9,15 +9,11 @@ use Rattle.rules.specs.Expressions.{value, expression}
 use Rattle.rules.specs.Search.{plainOrder}
 use Rattle.rules.specs.Calls.{refuse, succeed, reading, close, searching, check}
 
-abbrev pub joined : List (List ℕ) → List ℕ
-joined [] = []
-joined (l ∷ ls) = l ++ joined ls
-
 -- the words of a description of v boards with these relation lines and kind lines
 abbrev pub describe : ℕ → List (List ℕ) → List (List ℕ) → List ℕ
 describe v ls ks =
-    let lines = joined ls in
-    let kinds = joined ks in
+    let lines = flatten ls in
+    let kinds = flatten ks in
     v ∷ length ls ∷ length ks ∷ 6 ∷ (6 + length lines) ∷ (6 + length lines + length kinds) ∷ (lines ++ kinds)
 
 -- a full table
@@ -136,6 +132,10 @@ cases =
     ∷ closes 6 (is 0 same 3 ∷ []) (feeds 0 (1 ∷ 2 ∷ []) ∷ feeds 3 (4 ∷ 5 ∷ []) ∷ []) 108
     (1 ∷ 2 ∷ 2 ∷ 1 ∷ 2 ∷ 2 ∷ 4 ∷ 1 ∷ 8 ∷ 4 ∷ 1 ∷ 8 ∷ 4 ∷ 8 ∷ 1 ∷ 4 ∷ 8 ∷ 1
     ∷ 1 ∷ 2 ∷ 2 ∷ 1 ∷ 2 ∷ 2 ∷ 4 ∷ 1 ∷ 8 ∷ 4 ∷ 1 ∷ 8 ∷ 4 ∷ 8 ∷ 1 ∷ 4 ∷ 8 ∷ 1 ∷ [])
+    -- and panels with a pair of ways that is not one board are not one board: 1 side 4
+    ∷ closes 6 (is 1 side 4 ∷ []) (feeds 0 (1 ∷ 2 ∷ []) ∷ feeds 3 (4 ∷ 5 ∷ []) ∷ []) 70
+    (1 ∷ 2 ∷ 2 ∷ 14 ∷ 10 ∷ 15 ∷ 4 ∷ 1 ∷ 8 ∷ 12 ∷ 8 ∷ 15 ∷ 4 ∷ 8 ∷ 1 ∷ 15 ∷ 15 ∷ 15
+    ∷ 14 ∷ 10 ∷ 15 ∷ 1 ∷ 2 ∷ 2 ∷ 12 ∷ 8 ∷ 15 ∷ 4 ∷ 1 ∷ 8 ∷ 15 ∷ 15 ∷ 15 ∷ 4 ∷ 8 ∷ 1 ∷ [])
     -- no arrangement, as only the tries show
     ∷ exhausts 5
     (either 0 above below 3 ∷ either 1 same side 2 ∷ either 1 below side 3 ∷ either 1 above below 4 ∷ either 2 above side 3

@@ -5,6 +5,7 @@ use mathlib.Core.List.{List, [], _∷_, List·Memᴰ}
 use Prim.Native.Nat.{ℕ, zero, suc, _-_, _≤_, _<_}
 use lib.Dec.{leb, ltb, eqb}
 use lib.ListN.{length, getD, take, drop}
+use Rattle.rules.specs.Relations.{eachOf}
 use Rattle.rules.specs.Expressions.{Value, value, malformed, expression}
 
 -- the most boards, relation lines, kind lines, words of an expression and ways
@@ -79,8 +80,7 @@ relationLine v (p ∷ q ∷ n ∷ ws) =
 
 -- each of these is a board
 abbrev pub boardsOnly : ℕ → List ℕ → Bool
-boardsOnly v [] = true
-boardsOnly v (y ∷ ys) = ltb y v && boardsOnly v ys
+boardsOnly v ys = eachOf (λ y. ltb y v) ys
 
 -- Kind line: p, a kind code (any word), a number of ways n from 0 to 8, then n boards in order.
 unfoldable pub kindLine : ℕ → List ℕ → Reading (Front KindLine)

@@ -6,6 +6,16 @@ use Prim.Native.Nat.{ℕ, zero, suc, _+_, _*_, _/_, _%_, _^_, _<_}
 use lib.Dec.{T, eqb}
 use lib.ListN.{getD}
 
+-- f passes at some element, at each element of a list
+module _ {X : Type 0} (f : X → Bool) where
+  abbrev pub someOf : List X → Bool
+  someOf [] = false
+  someOf (x ∷ xs) = elim (f x) [ true ↦ true | false ↦ someOf xs ]
+
+  abbrev pub eachOf : List X → Bool
+  eachOf [] = true
+  eachOf (x ∷ xs) = elim (f x) [ true ↦ eachOf xs | false ↦ false ]
+
 -- f passes at some number below n
 abbrev pub someBelow : ℕ → (ℕ → Bool) → Bool
 someBelow zero f = false

@@ -1,12 +1,12 @@
 -- Tables of sets (01, 'An arrangement' and 'Closed tables'): V times V cells, cell (p, q) at V times p plus q.
 -- Assumes nothing.
 use mathlib.Core.Path.{_≡_}
-use mathlib.Core.Bool.{Bool, true, false}
+use mathlib.Core.Bool.{Bool}
 use mathlib.Core.List.{List, [], _∷_}
 use Prim.Native.Nat.{ℕ, zero, suc, _+_, _*_, _<_}
 use lib.Dec.{eqb}
 use lib.ListN.{length, getD}
-use Rattle.rules.specs.Relations.{sets, _⊆_, size}
+use Rattle.rules.specs.Relations.{someOf, sets, _⊆_, size}
 use Rattle.rules.specs.Descriptions.{Sheet}
 
 -- cell (p, q) of a table of v boards
@@ -29,8 +29,7 @@ pub record Inside (u t : List ℕ) : Type 0 where
 
 -- some cell is empty
 unfoldable pub emptied : List ℕ → Bool
-emptied [] = false
-emptied (x ∷ xs) = elim (eqb x 0) [ true ↦ true | false ↦ emptied xs ]
+emptied t = someOf (λ x. eqb x 0) t
 
 -- the number of relations in all cells together
 unfoldable pub total : List ℕ → ℕ

@@ -1,0 +1,4 @@
+-- The laws behind the functions of this crate.
+pub mod Bits
+pub mod Entries
+pub mod Determined

@@ -1,0 +1,124 @@
+// Sets of relations between two boards as bytes, a bit for each relation: their operations and their composition.
+mod compositions;
+
+ghost use mathlib.Core.Path.{_≡_};
+ghost use Prim.Native.Nat.{_<_};
+ghost use Rattle.rules.specs.Relations.{relations, sets, meet, join, complement, converse, size, composed, compose};
+
+// Same board, above, below, side.
+pub const E: u8 = 1;
+
+pub const A: u8 = 2;
+
+pub const B: u8 = 4;
+
+pub const S: u8 = 8;
+
+// All of them.
+pub const FULL: u8 = 15;
+
+const RELATIONS: usize = 4;
+
+const SETS: usize = 16;
+
+// The sixteen compositions of single relations: what p to r may be, given p to q (row) and q to r (column).
+const SINGLES: [u8; 16] = [
+    1, // E with E
+    2, // E with A
+    4, // E with B
+    8, // E with S
+    2, // A with E
+    2, // A with A
+    7, // A with B
+    10, // A with S
+    4, // B with E
+    15, // B with A
+    4, // B with B
+    8, // B with S
+    8, // S with E
+    8, // S with A
+    12, // S with B
+    15, // S with S
+];
+
+// Each set the other way round: A and B exchanged.
+const CONVERSES: [u8; 16] = [
+    0, // nothing
+    1, // E
+    4, // A
+    5, // EA
+    2, // B
+    3, // EB
+    6, // AB
+    7, // EAB
+    8, // S
+    9, // ES
+    12, // AS
+    13, // EAS
+    10, // BS
+    11, // EBS
+    14, // ABS
+    15, // EABS
+];
+
+fn wide(x: u8) -> usize
+    ensures { λ n. ⌜ n ≡ x ⌝ }
+{
+    x as usize
+}
+
+// What two single relations, given by their numbers, compose to.
+pub fn composed(r: usize, s: usize) -> u8
+    requires { ⌜ (r < relations) × (s < relations) ⌝ }
+    ensures { λ z. ⌜ z ≡ composed r s ⌝ }
+{
+    SINGLES[RELATIONS * r + s]
+}
+
+// What two sets compose to: the union over all pairs of their members.
+pub fn compose(x: u8, y: u8) -> u8
+    requires { ⌜ (x < sets) × (y < sets) ⌝ }
+    ensures { λ z. ⌜ z ≡ compose x y ⌝ }
+{
+    compositions::COMPOSITIONS[SETS * wide(x) + wide(y)]
+}
+
+// The relations that both sets have.
+pub fn meet(x: u8, y: u8) -> u8
+    requires { ⌜ (x < sets) × (y < sets) ⌝ }
+    ensures { λ z. ⌜ z ≡ meet x y ⌝ }
+{
+    x & y
+}
+
+// The relations that either set has.
+pub fn join(x: u8, y: u8) -> u8
+    requires { ⌜ (x < sets) × (y < sets) ⌝ }
+    ensures { λ z. ⌜ z ≡ join x y ⌝ }
+{
+    x | y
+}
+
+// The relations that the set lacks.
+pub fn complement(x: u8) -> u8
+    requires { ⌜ x < sets ⌝ }
+    ensures { λ z. ⌜ z ≡ complement x ⌝ }
+{
+    FULL - x
+}
+
+// The set as seen from the other board.
+pub fn converse(x: u8) -> u8
+    requires { ⌜ x < sets ⌝ }
+    ensures { λ z. ⌜ z ≡ converse x ⌝ }
+{
+    CONVERSES[wide(x)]
+}
+
+// The number of relations in the set.
+pub fn size(x: u8) -> u32
+    requires { ⌜ x < sets ⌝ }
+    ensures { λ n. ⌜ n ≡ size x ⌝ }
+{
+    u8::count_ones(x)
+}

@@ -12,20 +12,29 @@ use Rattle.rules.specs.Descriptions.{mostBoards, mostLines, mostKinds, m
 use Rattle.rules.proofs.Tests.{T-and-left, T-and-right}
 use Rattle.rules.proofs.Members.{All, each-of-out, member-at}
 
--- ---- what a good reading passed
+-- ---- what a reading passed
 
-never : {X Y : Type 0} (n : ℕ) (x : X) → refused n ≡ good x → Y
+pub never : {X Y : Type 0} (n : ℕ) (x : X) → refused n ≡ good x → Y
 never n x p = let z : _≡_ {A = ℕ} 0 1 = cc in let y : ⊥ = omega arith in absurd y
 
-need-test : {X : Type 0} (n : ℕ) (b : Bool) (r : Reading X) (x : X) → need n b r ≡ good x → T b
+pub need-test : {X : Type 0} (n : ℕ) (b : Bool) (r : Reading X) (x : X) → need n b r ≡ good x → T b
 need-test n true r x p = tt
 need-test n false r x p = never n x p
 
-need-rest : {X : Type 0} (n : ℕ) (b : Bool) (r : Reading X) (x : X) → need n b r ≡ good x → r ≡ good x
+pub need-rest : {X : Type 0} (n : ℕ) (b : Bool) (r : Reading X) (x : X) → need n b r ≡ good x → r ≡ good x
 need-rest n true r x p = p
 need-rest n false r x p = never n x p
 
-next-out : {X Y : Type 0} (r : Reading Y) (f : Y → Reading X) (x : X) → next r f ≡ good x → (y : Y) × (r ≡ good y) × (f y ≡ good x)
+-- a reading by a test that it passes or fails
+pub need-passed : {X : Type 0} (n : ℕ) (b : Bool) (r : Reading X) → T b → need n b r ≡ r
+need-passed n true r t = refl
+need-passed n false r t = absurd t
+
+pub need-failed : {X : Type 0} (n : ℕ) (b : Bool) (r : Reading X) → (T b → ⊥) → need n b r ≡ refused n
+need-failed n true r f = absurd (f tt)
+need-failed n false r f = refl
+
+pub next-out : {X Y : Type 0} (r : Reading Y) (f : Y → Reading X) (x : X) → next r f ≡ good x → (y : Y) × (r ≡ good y) × (f y ≡ good x)
 next-out (good y) f x p = (y, refl, p)
 next-out (refused n) f x p = never n x p
 

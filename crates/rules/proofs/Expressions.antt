@@ -1,13 +1,16 @@
 -- Words mean a set exactly if they write an expression that stands for it; and how many words an evaluation is allowed makes no difference, once
 -- they are enough. Assumes nothing.
-use mathlib.Core.Path.{_≡_, refl, sym, ap, ap₂, _∙_}
+use mathlib.Core.Path.{_≡_, refl, sym, ap, ap₂, _∙_, subst}
 use mathlib.Core.List.{List, [], _∷_, _++_, append-assoc, append-nil}
-use Prim.Native.Nat.{ℕ, zero, suc, _≤_}
+use Prim.Native.Nat.{ℕ, zero, suc, _+_, _≤_, _<_}
 use native.Mathlib.Nat.{not-suc-le-zero, le-of-suc-le-suc, le-refl}
 use native.Mathlib.Omega.{arith}
-use lib.ListN.{length, length-append}
-use Rattle.rules.specs.Relations.{E, A, B, S, join, meet, complement, converse}
-use Rattle.rules.specs.Expressions.{two, one, codes, code, Value, value, malformed, andThen, follow, evaluate, expression, Tree, same, above, below, side, or, and, not, inv, written, denoted}
+use lib.ListN.{length, drop, length-append}
+use lib.Seq.{drop-at}
+use Rattle.rules.specs.Relations.{relations, sets, E, A, B, S, join, meet, complement, converse}
+use Rattle.rules.specs.Expressions.{Code, relation, two, one, unknown, codes, code, Value, value, malformed, andThen, follow, evaluate, expression, Tree, same, above, below, side, or, and, not, inv, written, denoted}
+use Rattle.rules.proofs.Sets.{setOf-small}
+use Rattle.rules.proofs.Parts.{Suffix, drop-suffix}
 
 -- ---- words that write an expression mean what it stands for
 
@@ -173,3 +176,57 @@ evaluate-enough n m ws h k = go (evaluate n ws) (evaluate m ws) refl refl
     go (value x rest) v p q = sym (kept n m ws x rest p k) ∙ q
     go malformed (value x rest) p q = sym p ∙ kept m n ws x rest q h
     go malformed malformed p q = refl
+
+-- ---- an expression by its first code and the words left
+
+denoted-small : (e : Tree) → denoted e < sets
+unfolding relations denoted join meet complement converse
+denoted-small same = omega arith
+denoted-small above = omega arith
+denoted-small below = omega arith
+denoted-small side = omega arith
+denoted-small (or a b) = setOf-small _
+denoted-small (and a b) = setOf-small _
+denoted-small (not a) = setOf-small _
+denoted-small (inv a) = setOf-small _
+
+-- what is read is a set, and what is left ends the words
+pub record Ends (ws : List ℕ) (x : ℕ) (rest : List ℕ) : Type 0 where
+  pub small : x < sets
+  pub suffix : Suffix ws rest
+
+evaluate-ends : (n : ℕ) (ws : List ℕ) (x : ℕ) (rest : List ℕ) → evaluate n ws ≡ value x rest → Ends ws x rest
+evaluate-ends n ws x rest p =
+    let r = evaluate-written n ws x rest p in
+    let l : length ws ≡ length (written (r .tree)) + length rest = ap length (r .words) ∙ length-append (written (r .tree)) rest in
+    let d : drop (length (written (r .tree))) ws ≡ rest =
+    ap (drop (length (written (r .tree)))) (r .words) ∙ drop-at (written (r .tree)) rest _ refl in
+    record {
+      small = subst (λ (y : ℕ). y < sets) (r .stands) (denoted-small (r .tree));
+      suffix = subst (Suffix ws) d (drop-suffix (length (written (r .tree))) ws (omega arith));
+    }
+
+pub expression-ends : (ws : List ℕ) (x : ℕ) (rest : List ℕ) → expression ws ≡ value x rest → Ends ws x rest
+unfolding expression
+expression-ends ws x rest p = evaluate-ends (length ws) ws x rest p
+
+-- a code and its operands, each a whole expression of the words left
+pub expression-step : (w : ℕ) (ws : List ℕ) → expression (w ∷ ws) ≡ follow expression (code w) ws
+unfolding expression evaluate follow
+expression-step w ws = go (code w)
+  where
+    enough : (us : List ℕ) → length us ≤ length ws → evaluate (length ws) us ≡ expression us
+    enough us h = evaluate-enough (length ws) (length us) us h (le-refl (length us))
+
+    second : (f : ℕ → ℕ → ℕ) (v : Value) → evaluate (length ws) ws ≡ v
+        → andThen v (λ x more. andThen (evaluate (length ws) more) (λ y rest. value (f x y) rest))
+        ≡ andThen v (λ x more. andThen (expression more) (λ y rest. value (f x y) rest))
+    second f malformed p = refl
+    second f (value x more) p =
+        ap (λ (v : Value). andThen v (λ y rest. value (f x y) rest)) (enough more (evaluate-ends (length ws) ws x more p .suffix .shorter))
+
+    go : (c : Code) → follow (λ left. evaluate (length ws) left) c ws ≡ follow expression c ws
+    go (relation x) = refl
+    go (two f) = second f (evaluate (length ws) ws) refl
+    go (one f) = refl
+    go unknown = refl

@@ -10,6 +10,7 @@ pub mod Largest
 pub mod Arrangements
 pub mod Panels
 pub mod Stages
+pub mod Parts
 pub mod Expressions
 pub mod Descriptions
 pub mod Narrowing

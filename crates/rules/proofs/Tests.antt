@@ -17,6 +17,10 @@ T-true {b} t = go b t
     go true t = refl
     go false t = absurd t
 
+pub T-false : {b : Bool} → (T b → ⊥) → b ≡ false
+T-false {b = true} f = absurd (f tt)
+T-false {b = false} f = refl
+
 pub true-T : {b : Bool} → b ≡ true → T b
 true-T e = subst T (sym e) tt
 

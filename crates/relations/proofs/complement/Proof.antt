@@ -1,6 +1,4 @@
 -- `relations::complement` meets its contract: what a set has and what it lacks make the full set. Assumes nothing.
-use mathlib.Core.Path.{_≡_}
-use Prim.Native.Nat.{_+_}
 use native.Mathlib.Omega.{arith}
 use Rattle.rules.specs.Relations.{relations, setTo, setOf, full, complement}
 use Rattle.relations.proofs.Bits.{setTo-not}

@@ -1,0 +1,6 @@
+-- The laws behind the functions of this crate.
+pub mod Evaluation
+pub mod Fronts
+pub mod Filled
+pub mod Wholes
+pub mod Determined

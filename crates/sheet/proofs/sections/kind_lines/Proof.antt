@@ -1,0 +1,83 @@
+-- `sections::kind_lines` meets its contract: from each line on, the section comes to what it comes to from the start. The measure is the lines left.
+-- Assumes nothing.
+use mathlib.Core.Path.{sym, _∙_}
+use native.Mathlib.Omega.{arith}
+use borrow.Author.Needs.{needs}
+use Rattle.rules.specs.Descriptions.{kindLine}
+use Rattle.sheet.proofs.Fronts.{kind-suffix, kind-line-out, kind-refused-out}
+use Rattle.sheet.proofs.Filled.{Walk, walk-start, walk-refused, walk-next, walk-filled, walk-over}
+use Rattle.sheet.proofs.sections.kind_lines.Statement.{statement}
+use Rattle.sheet.proofs.sections.kind_lines.Tie as tie
+
+abbrev Inv-loop : tie.InvT-loop
+Inv-loop v count words at₀ left₀ at left = Walk (kindLine v) count words at left
+
+abbrev μ-loop : tie.MeasureT-loop
+μ-loop v count words at₀ left₀ at left = left
+
+loop-holds : tie.Need-loop-holds Inv-loop μ-loop
+loop-holds c = walk-start (kindLine (c .before .args .v)) (c .before .args .count) (c .before .args .words .now)
+
+mul-kind-line : tie.Need-mul-kind-line Inv-loop μ-loop
+mul-kind-line c = search needs
+
+sub-kind-line : tie.Need-sub-kind-line Inv-loop μ-loop
+sub-kind-line c = omega (arith, c .before .loop .inv .within)
+
+part-kind-line-start : tie.Need-part-kind-line-start Inv-loop μ-loop
+part-kind-line-start c = search needs
+
+part-kind-line-end : tie.Need-part-kind-line-end Inv-loop μ-loop
+part-kind-line-end c = search needs
+
+kind-line-requires : tie.Need-kind-line-requires Inv-loop μ-loop
+kind-line-requires c κs = search needs
+
+enum-known-rest : tie.Need-enum-known-rest Inv-loop μ-loop
+enum-known-rest c = search needs
+
+enum-known-r : tie.Need-enum-known-r Inv-loop μ-loop
+enum-known-r c = search needs
+
+returns : tie.Need-returns Inv-loop μ-loop
+returns c = walk-refused (kindLine (c .before .before .before .before .before .before .before .before .args .v)) (c .before .before .before .before .before .before .before .before .args .count) (c .before .before .before .before .before .before .before .before .args .words .now) _ (c .before .before .before .before .before .before .loop .inv) (c .before .before .before .before .before .loop-test .taken) (kind-refused-out _ _ (sym (c .before .r .given .1) ∙ c .before .before .before .kind-line .ensures))
+
+sub-at : tie.Need-sub-at Inv-loop μ-loop
+sub-at c = walk-next (kindLine (c .before .before .before .before .before .before .before .before .args .v)) (c .before .before .before .before .before .before .before .before .args .count) (c .before .before .before .before .before .before .before .before .args .words .now) _ (kind-suffix (c .before .before .before .before .before .before .before .before .args .v)) (c .before .before .before .before .before .before .loop .inv) (c .before .before .before .before .before .loop-test .taken) (kind-line-out _ _ _ (sym (c .before .rest .given .1) ∙ c .before .before .before .kind-line .ensures)) .0
+
+sub-left : tie.Need-sub-left Inv-loop μ-loop
+sub-left c = omega arith
+
+loop-less : tie.Need-loop-less Inv-loop μ-loop
+loop-less c = omega arith
+
+loop-again : tie.Need-loop-again Inv-loop μ-loop
+loop-again c = walk-next (kindLine (c .before .before .before .before .before .before .before .before .args .v)) (c .before .before .before .before .before .before .before .before .args .count) (c .before .before .before .before .before .before .before .before .args .words .now) _ (kind-suffix (c .before .before .before .before .before .before .before .before .args .v)) (c .before .before .before .before .before .before .loop .inv) (c .before .before .before .before .before .loop-test .taken) (kind-line-out _ _ _ (sym (c .before .rest .given .1) ∙ c .before .before .before .kind-line .ensures)) .1
+
+returns-2 : tie.Need-returns-2 Inv-loop μ-loop
+returns-2 c = walk-over (kindLine (c .before .before .before .before .args .v)) (c .before .before .before .before .args .count) (c .before .before .before .before .args .words .now) (c .before .before .loop .inv) (c .before .loop-test .left) (c .if1 .taken)
+
+returns-3 : tie.Need-returns-3 Inv-loop μ-loop
+returns-3 c = walk-filled (kindLine (c .before .before .before .before .args .v)) (c .before .before .before .before .args .count) (c .before .before .before .before .args .words .now) (c .before .before .loop .inv) (c .before .loop-test .left) (c .if1 .left)
+
+pub kind-lines-spec : {M : Type 1} → statement M
+kind-lines-spec =
+    tie.close
+    (tie.spec
+    Inv-loop
+    μ-loop
+    loop-holds
+    mul-kind-line
+    sub-kind-line
+    part-kind-line-start
+    part-kind-line-end
+    kind-line-requires
+    enum-known-rest
+    enum-known-r
+    returns
+    sub-at
+    sub-left
+    loop-less
+    loop-again
+    returns-2
+    returns-3)

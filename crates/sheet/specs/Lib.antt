@@ -1,0 +1,2 @@
+-- What the reader's functions give, by the definitions of the crate rules.
+pub mod Found

@@ -1,0 +1,113 @@
+// The lines of a description, each read off the front of the words of its section.
+ghost use mathlib.Core.Path.{_≡_};
+ghost use Rattle.rules.specs.Descriptions.{boardsOnly, relationLine, kindLine};
+ghost use Rattle.sheet.specs.Found.{relationFound, kindFound};
+use crate::expressions::Expression;
+use crate::words::wide;
+
+// A refusal's number.
+pub struct Refusal {
+    pub number: u8,
+}
+
+// The relation of p to q is one of the allowed.
+pub struct RelationLine {
+    pub p: usize,
+    pub q: usize,
+    pub allowed: u8,
+}
+
+// p is a panel of this code, and feeds exactly as many ways as this, which stand after the line's third word.
+pub struct KindLine {
+    pub p: usize,
+    pub code: u16,
+    pub ways: usize,
+}
+
+// A line and the number of words after it, or why there is none.
+pub enum RelationFound {
+    Line(RelationLine, usize),
+    Refused(Refusal),
+}
+
+pub enum KindFound {
+    Line(KindLine, usize),
+    Refused(Refusal),
+}
+
+const MOST_WORDS: usize = 15;
+
+const MOST_WAYS: usize = 8;
+
+// Reads the relation line at the front of the words, for boards below v.
+pub fn relation_line(v: usize, words: &[u16]) -> RelationFound
+    ensures { λ r. ⌜ r ≡ relationFound (relationLine v (now (words .entry))) ⌝ }
+{
+    if words.len() < 3 {
+        return RelationFound::Refused(Refusal { number: 3 });
+    }
+    let n = wide(words[2]);
+    if n < 1 || MOST_WORDS < n || words.len() - 3 < n {
+        return RelationFound::Refused(Refusal { number: 3 });
+    }
+    let p = wide(words[0]);
+    let q = wide(words[1]);
+    if v <= p || v <= q {
+        return RelationFound::Refused(Refusal { number: 4 });
+    }
+    let end = 3 + n;
+    let Expression::Set(x, left) = crate::expressions::evaluate(&words[3..end]) else {
+        return RelationFound::Refused(Refusal { number: 5 });
+    };
+    if 0 < left {
+        return RelationFound::Refused(Refusal { number: 5 });
+    }
+    RelationFound::Line(
+        RelationLine {
+            p: p,
+            q: q,
+            allowed: x,
+        },
+        words.len() - end,
+    )
+}
+
+// Each of these words is a board below v.
+fn boards_only(v: usize, ways: &[u16]) -> bool
+    ensures { λ b. ⌜ b ≡ boardsOnly v (now (ways .entry)) ⌝ }
+{
+    let mut i = 0;
+    while i < ways.len() {
+        if v <= wide(ways[i]) {
+            return false;
+        }
+        i += 1;
+    }
+    true
+}
+
+// Reads the kind line at the front of the words, for boards below v.
+pub fn kind_line(v: usize, words: &[u16]) -> KindFound
+    ensures { λ r. ⌜ r ≡ kindFound (kindLine v (now (words .entry))) ⌝ }
+{
+    if words.len() < 3 {
+        return KindFound::Refused(Refusal { number: 3 });
+    }
+    let n = wide(words[2]);
+    if MOST_WAYS < n || words.len() - 3 < n {
+        return KindFound::Refused(Refusal { number: 3 });
+    }
+    let p = wide(words[0]);
+    let end = 3 + n;
+    if v <= p || !boards_only(v, &words[3..end]) {
+        return KindFound::Refused(Refusal { number: 4 });
+    }
+    KindFound::Line(
+        KindLine {
+            p: p,
+            code: words[1],
+            ways: n,
+        },
+        words.len() - end,
+    )
+}

@@ -1,0 +1,55 @@
+// The two sections of lines, each filled exactly by its lines.
+ghost use mathlib.Core.Path.{_≡_};
+ghost use Rattle.rules.specs.Descriptions.{relationLine, kindLine, section};
+ghost use Rattle.sheet.specs.Found.{sectionFound};
+use crate::lines::KindFound;
+use crate::lines::Refusal;
+use crate::lines::RelationFound;
+
+// A section that its lines fill, or the first refusal in it.
+pub enum SectionFound {
+    Filled,
+    Refused(Refusal),
+}
+
+// Reads as many relation lines as this, for boards below v.
+pub fn relation_lines(v: usize, count: usize, words: &[u16]) -> SectionFound
+    ensures { λ r. ⌜ r ≡ sectionFound (section (relationLine v) count (now (words .entry))) ⌝ }
+{
+    let mut at = 0;
+    let mut left = count;
+    while 0 < left {
+        let rest = match crate::lines::relation_line(v, &words[at..]) {
+            RelationFound::Line(_, rest) => rest,
+            RelationFound::Refused(r) => return SectionFound::Refused(r),
+        };
+        at = words.len() - rest;
+        left -= 1;
+    }
+    if at < words.len() {
+        SectionFound::Refused(Refusal { number: 3 })
+    } else {
+        SectionFound::Filled
+    }
+}
+
+// Reads as many kind lines as this, for boards below v.
+pub fn kind_lines(v: usize, count: usize, words: &[u16]) -> SectionFound
+    ensures { λ r. ⌜ r ≡ sectionFound (section (kindLine v) count (now (words .entry))) ⌝ }
+{
+    let mut at = 0;
+    let mut left = count;
+    while 0 < left {
+        let rest = match crate::lines::kind_line(v, &words[at..]) {
+            KindFound::Line(_, rest) => rest,
+            KindFound::Refused(r) => return SectionFound::Refused(r),
+        };
+        at = words.len() - rest;
+        left -= 1;
+    }
+    if at < words.len() {
+        SectionFound::Refused(Refusal { number: 3 })
+    } else {
+        SectionFound::Filled
+    }
+}

@@ -1,0 +1,4 @@
+-- The laws behind the functions of this crate.
+pub mod Cells
+pub mod Freshness
+pub mod Determined

@@ -1,0 +1,1 @@
+-- The contracts cite the definitions of the crates rules and answers.

@@ -1,0 +1,42 @@
+// Tables of sets, a byte for each pair of boards.
+ghost use mathlib.Core.Path.{_≡_};
+ghost use lib.ListN.{length, replicate};
+ghost use Rattle.rules.specs.Calls.{fresh};
+ghost use Rattle.answers.specs.Answers.{outcome};
+use answers::Answer;
+use sheet::header::MOST_BOARDS;
+
+// Sets every cell to one set.
+fn fill(table: &mut [u8], set: u8)
+    ensures { λ _. ⌜ now (table .exit) ≡ replicate (length (now (table .entry))) set ⌝ }
+{
+    let mut i = 0;
+    while i < table.len() {
+        table[i] = set;
+        i += 1;
+    }
+}
+
+// Makes the lent table one of v boards of which nothing is known yet: each cell holds all relations. Refuses a number of boards out of range with 1,
+// then a wrong number of cells with 6, and then leaves the table as it came.
+pub fn fresh(v: usize, table: &mut [u8]) -> Answer
+    ensures { λ a. ⌜ outcome a (now (table .exit)) ≡ fresh v (now (table .entry)) ⌝ }
+{
+    if v < 1 || MOST_BOARDS < v {
+        return Answer {
+            number: 1,
+            count: 0,
+        };
+    }
+    if table.len() != v * v {
+        return Answer {
+            number: 6,
+            count: 0,
+        };
+    }
+    fill(table, relations::FULL);
+    Answer {
+        number: 0,
+        count: 0,
+    }
+}

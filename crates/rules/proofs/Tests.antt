@@ -5,10 +5,21 @@ use mathlib.Core.Logic.{_⊎_, inl, inr, ⊎-elim}
 use Prim.Native.Nat.{ℕ, zero, suc, _≤_, _<_}
 use native.Mathlib.Nat.{not-suc-le-zero, le-of-suc-le-suc, eq-or-lt-of-le, le-antisymm}
 use native.Mathlib.Omega.{arith}
+use borrow.Author.Tests.{ltb-true, ltb-false, leb-true, leb-false, eqb-true, eqb-false, not-true, not-false}
 use lib.Dec.{T, eqb, eqb→eq, eqb-refl, T-not, not-T, ltb, ltb→lt, nltb→le}
 use Rattle.rules.specs.Relations.{someBelow, eachBelow, countBelow}
 
 -- ---- tests
+
+-- a test that two numbers differ, passed or not
+pub unequal : (a b : ℕ) → not (eqb a b) ≡ true → a ≡ b → ⊥
+unequal a b p = eqb-false a b (not-true (eqb a b) p)
+
+pub equal : (a b : ℕ) → not (eqb a b) ≡ false → a ≡ b
+equal a b p = eqb-true a b (not-false (eqb a b) p)
+
+-- what `omega` is handed where the code's tests of numbers stand as tests: after the first of a row of them
+pub ruleset tested = (arith, ltb-true, ltb-false, leb-true, leb-false, unequal, equal)
 
 pub T-true : {b : Bool} → T b → b ≡ true
 T-true {b} t = go b t

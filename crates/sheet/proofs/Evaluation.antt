@@ -92,6 +92,12 @@ five w g h n4 n6 n7 = go (operator w g h) n4 n6 n7
     go complements a b d = absurd (b refl)
     go inverts a b d = absurd (d refl)
 
+-- there is a word, and it is an operator
+pub record Operates (ws : List ℕ) : Type 0 where
+  pub some : length ws ≡ 0 → ⊥
+  pub least : 4 ≤ getD ws 0 0
+  pub most : getD ws 0 0 ≤ 7
+
 -- ---- what is found, by the words
 
 pub finds-nothing : (ws : List ℕ) → length ws ≡ 0 → Finds ws Malformed
@@ -120,9 +126,9 @@ module _ (ws : List ℕ) (some : length ws ≡ 0 → ⊥) where
   finds-unknown h = by-code unknown (code-unknown (getD ws 0 0) h) Malformed refl
 
   -- an operator's first operand is missing
-  pub finds-no-first : 4 ≤ getD ws 0 0 → getD ws 0 0 ≤ 7 → Finds (drop 1 ws) Malformed → Finds ws Malformed
+  pub finds-no-first : Operates ws → Finds (drop 1 ws) Malformed → Finds ws Malformed
   unfolding follow
-  finds-no-first g h p = by-code (code (getD ws 0 0)) refl Malformed (go (operator (getD ws 0 0) g h))
+  finds-no-first o p = by-code (code (getD ws 0 0)) refl Malformed (go (operator (getD ws 0 0) (o .least) (o .most)))
     where
       go : {w : ℕ} {c : Code} → Operator w c → Malformed ≡ expressionFound (follow expression c (drop 1 ws))
       go joins = rw (no-operand (drop 1 ws) p)
@@ -159,9 +165,9 @@ module _ (ws : List ℕ) (some : length ws ≡ 0 → ⊥) where
           ap (λ (k : ℕ). drop k ws) e ∙ sym (drop-drop (length (drop 1 ws) - length (read-first .rest)) 1 ws) ∙ read-first .suffix .end,
         )
 
-    two-code : (P : Code → Type 0) → 4 ≤ getD ws 0 0 → getD ws 0 0 ≤ 7 → (getD ws 0 0 ≡ 6 → ⊥) → (getD ws 0 0 ≡ 7 → ⊥) → ((f : ℕ → ℕ → ℕ) → P (two f))
+    two-code : (P : Code → Type 0) → Operates ws → (getD ws 0 0 ≡ 6 → ⊥) → (getD ws 0 0 ≡ 7 → ⊥) → ((f : ℕ → ℕ → ℕ) → P (two f))
         → P (code (getD ws 0 0))
-    two-code P g h n6 n7 p = go (operator (getD ws 0 0) g h) n6 n7
+    two-code P o n6 n7 p = go (operator (getD ws 0 0) (o .least) (o .most)) n6 n7
       where
         go : {w : ℕ} {c : Code} → Operator w c → (w ≡ 6 → ⊥) → (w ≡ 7 → ⊥) → P c
         go joins a b = p join
@@ -169,12 +175,12 @@ module _ (ws : List ℕ) (some : length ws ≡ 0 → ⊥) where
         go complements a b = absurd (a refl)
         go inverts a b = absurd (b refl)
 
-    pub finds-no-second : 4 ≤ getD ws 0 0 → getD ws 0 0 ≤ 7 → (getD ws 0 0 ≡ 6 → ⊥) → (getD ws 0 0 ≡ 7 → ⊥) → Finds (drop (length ws - n) ws) Malformed
+    pub finds-no-second : Operates ws → (getD ws 0 0 ≡ 6 → ⊥) → (getD ws 0 0 ≡ 7 → ⊥) → Finds (drop (length ws - n) ws) Malformed
         → Finds ws Malformed
     unfolding follow
-    finds-no-second g h n6 n7 p =
+    finds-no-second o n6 n7 p =
         by-code (code (getD ws 0 0)) refl Malformed
-        (two-code (λ c. Malformed ≡ expressionFound (follow expression c (drop 1 ws))) g h n6 n7 (λ f. rw (read-first .reads, ap expression (sym (second-at .1)) ∙ no-operand (drop (length ws - n) ws) p)))
+        (two-code (λ c. Malformed ≡ expressionFound (follow expression c (drop 1 ws))) o n6 n7 (λ f. rw (read-first .reads, ap expression (sym (second-at .1)) ∙ no-operand (drop (length ws - n) ws) p)))
 
     module _ (y m : ℕ) (second : Finds (drop (length ws - n) ws) (Set y m)) where
       finds-two : (f : ℕ → ℕ → ℕ) → code (getD ws 0 0) ≡ two f → Finds ws (Set (f x y) m)
@@ -187,6 +193,6 @@ module _ (ws : List ℕ) (some : length ws ≡ 0 → ⊥) where
       unfolding code codes
       finds-join p = finds-two join (ap code p)
 
-      pub finds-meet : 4 ≤ getD ws 0 0 → getD ws 0 0 ≤ 7 → (getD ws 0 0 ≡ 4 → ⊥) → (getD ws 0 0 ≡ 6 → ⊥) → (getD ws 0 0 ≡ 7 → ⊥) → Finds ws (Set (meet x y) m)
+      pub finds-meet : Operates ws → (getD ws 0 0 ≡ 4 → ⊥) → (getD ws 0 0 ≡ 6 → ⊥) → (getD ws 0 0 ≡ 7 → ⊥) → Finds ws (Set (meet x y) m)
       unfolding code codes
-      finds-meet g h n4 n6 n7 = let p : getD ws 0 0 ≡ 5 = five (getD ws 0 0) g h n4 n6 n7 in finds-two meet (ap code p)
+      finds-meet o n4 n6 n7 = let p : getD ws 0 0 ≡ 5 = five (getD ws 0 0) (o .least) (o .most) n4 n6 n7 in finds-two meet (ap code p)

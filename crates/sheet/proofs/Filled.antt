@@ -9,7 +9,16 @@ use Rattle.rules.specs.Descriptions.{Reading, good, refused, Front, next, secti
 use Rattle.rules.proofs.Parts.{Suffix, tail}
 use Rattle.sheet.specs.declared.lines.Refusal.{Refusal}
 use Rattle.sheet.specs.declared.sections.SectionFound.the-variants.{Filled, Refused}
-use Rattle.sheet.specs.Found.{refusal, sectionFound}
+use Rattle.sheet.specs.Found.{refusal, sectionFound, endFound}
+
+-- a section after its last line
+pub end-over : (n : ℕ) → 0 < n → Refused (refusal 3) ≡ endFound n
+end-over zero h = let z : ⊥ = omega arith in absurd z
+end-over (suc n) h = refl
+
+pub end-filled : (n : ℕ) → n ≤ 0 → Filled ≡ endFound n
+end-filled zero h = refl
+end-filled (suc n) h = let z : ⊥ = omega arith in absurd z
 
 module _ {X : Type 0} (line : List ℕ → Reading (Front X)) where
   -- a line that is read
@@ -67,18 +76,10 @@ module _ {X : Type 0} (line : List ℕ → Reading (Front X)) where
     no-lines : {at left : ℕ} → Walk at left → left ≤ 0 → sectionFound (section line 0 (drop at ws)) ≡ sectionFound (section line count ws)
     no-lines {at} {left} w h = let e : 0 ≡ left = omega arith in ap (λ (n : ℕ). sectionFound (section line n (drop at ws))) e ∙ w .same
 
-    pub walk-filled : {at left : ℕ} → Walk at left → left ≤ 0 → length ws ≤ at → Filled ≡ sectionFound (section line count ws)
+    pub walk-ended : {at left : ℕ} → Walk at left → left ≤ 0 → endFound (length ws - at) ≡ sectionFound (section line count ws)
     unfolding section
-    walk-filled {at} w n h = go (drop at ws) (length-drop at ws) ∙ no-lines w n
+    walk-ended {at} w n = go (drop at ws) (length-drop at ws) ∙ no-lines w n
       where
-        go : (us : List ℕ) → length us ≡ length ws - at → Filled ≡ sectionFound (section line 0 us)
-        go [] e = refl
-        go (u ∷ us) e = let z : ⊥ = omega arith in absurd z
-
-    pub walk-over : {at left : ℕ} → Walk at left → left ≤ 0 → at < length ws → Refused (refusal 3) ≡ sectionFound (section line count ws)
-    unfolding section
-    walk-over {at} w n h = go (drop at ws) (length-drop at ws) ∙ no-lines w n
-      where
-        go : (us : List ℕ) → length us ≡ length ws - at → Refused (refusal 3) ≡ sectionFound (section line 0 us)
-        go [] e = let z : ⊥ = omega arith in absurd z
-        go (u ∷ us) e = refl
+        go : (us : List ℕ) → length us ≡ length ws - at → endFound (length ws - at) ≡ sectionFound (section line 0 us)
+        go [] e = ap endFound (sym e)
+        go (u ∷ us) e = ap endFound (sym e)

@@ -14,6 +14,7 @@ use Rattle.rules.proofs.Tests.{T-true, T-false, true-T, and-T, T-and-left, T-an
 use Rattle.rules.proofs.Members.{each-of-in, each-of-out, member-at, at-member}
 use Rattle.rules.proofs.Parts.{Suffix, drop-suffix}
 use Rattle.rules.proofs.Descriptions.{never, need-test, need-rest, need-passed, need-failed, next-out}
+use Rattle.sheet.specs.declared.expressions.Expression.{Expression}
 use Rattle.sheet.specs.declared.expressions.Expression.the-variants.{Set, Malformed}
 use Rattle.sheet.specs.declared.lines.Refusal.{Refusal}
 use Rattle.sheet.specs.declared.lines.RelationLine as declared
@@ -30,7 +31,7 @@ after : (n : ℕ) (ws : List ℕ) → length (drop n (drop 3 ws)) ≡ length ws 
 after n ws = ap length (drop-drop n 3 ws) ∙ length-drop (3 + n) ws
 
 -- the part that code lends of a line: n words after the first three
-pub part : (k n : ℕ) → k ≡ n → 3 + k - 3 ≡ n
+part : (k n : ℕ) → k ≡ n → 3 + k - 3 ≡ n
 part k n e = omega arith
 
 pub part-length : (k : ℕ) (ws : List ℕ) → 3 + k ≤ length ws → length (take (3 + k - 3) (drop 3 ws)) ≡ k
@@ -132,40 +133,61 @@ relation-words v (p ∷ []) h = let z : ⊥ = omega arith in absurd z
 relation-words v (p ∷ q ∷ []) h = let z : ⊥ = omega arith in absurd z
 relation-words v (p ∷ q ∷ n ∷ ws) h = refl
 
-module _ (v : ℕ) (ws : List ℕ) (three : 3 ≤ length ws) where
-  pub relation-misfits : (1 ≤ getD ws 2 0 → getD ws 2 0 ≤ mostWords → getD ws 2 0 ≤ length ws - 3 → ⊥) → FindsRelation v ws (relation.Refused (refusal 3))
+-- a relation line passes the tests of 3
+pub record LengthFits (ws : List ℕ) : Type 0 where
+  pub three : 3 ≤ length ws
+  pub low : 1 ≤ getD ws 2 0
+  pub high : getD ws 2 0 ≤ mostWords
+  pub room : getD ws 2 0 ≤ length ws - 3
+
+-- and those of 4
+pub record OnBoards (v : ℕ) (ws : List ℕ) : Type 0 where
+  pub fits : LengthFits ws
+  pub p-board : getD ws 0 0 < v
+  pub q-board : getD ws 1 0 < v
+
+module _ (v : ℕ) (ws : List ℕ) where
+  pub relation-misfits : 3 ≤ length ws → (1 ≤ getD ws 2 0 → getD ws 2 0 ≤ mostWords → getD ws 2 0 ≤ length ws - 3 → ⊥)
+      → FindsRelation v ws (relation.Refused (refusal 3))
   unfolding length-fits
-  relation-misfits f =
+  relation-misfits three f =
       sym (ap relationFound (relation-words v ws three ∙ need-failed 3 (length-fits v ws) _ (λ t.
       let o = length-out (getD ws 2 0) (length (drop 3 ws)) t in f (o .0) (o .1) (omega (arith, o .2, length-drop 3 ws)))))
 
-  module _ (low : 1 ≤ getD ws 2 0) (high : getD ws 2 0 ≤ mostWords) (room : getD ws 2 0 ≤ length ws - 3) where
-    fitting : relationLine v ws ≡ need 4 (boards-fit v ws) (read-relation v ws)
-    unfolding length-fits
-    fitting =
-        relation-words v ws three
-        ∙ need-passed 3 (length-fits v ws) _ (length-in (getD ws 2 0) (length (drop 3 ws)) low high (omega (arith, length-drop 3 ws)))
+  fitting : LengthFits ws → relationLine v ws ≡ need 4 (boards-fit v ws) (read-relation v ws)
+  unfolding length-fits
+  fitting l =
+      relation-words v ws (l .three)
+      ∙ need-passed 3 (length-fits v ws) _ (length-in (getD ws 2 0) (length (drop 3 ws)) (l .low) (l .high) (omega (arith, length-drop 3 ws, l .room)))
 
-    pub relation-no-boards : (getD ws 0 0 < v → getD ws 1 0 < v → ⊥) → FindsRelation v ws (relation.Refused (refusal 4))
+  pub relation-no-boards : LengthFits ws → (getD ws 0 0 < v → getD ws 1 0 < v → ⊥) → FindsRelation v ws (relation.Refused (refusal 4))
+  unfolding boards-fit
+  relation-no-boards l f =
+      sym (ap relationFound (fitting l ∙ need-failed 4 (boards-fit v ws) _ (λ t. let o = boards-out (getD ws 0 0) (getD ws 1 0) v t in f (o .0) (o .1))))
+
+  module _ (passed : OnBoards v ws) where
+    on-boards : relationLine v ws ≡ read-relation v ws
     unfolding boards-fit
-    relation-no-boards f =
-        sym (ap relationFound (fitting ∙ need-failed 4 (boards-fit v ws) _ (λ t. let o = boards-out (getD ws 0 0) (getD ws 1 0) v t in f (o .0) (o .1))))
+    on-boards =
+        fitting (passed .fits)
+        ∙ need-passed 4 (boards-fit v ws) _ (boards-in (getD ws 0 0) (getD ws 1 0) v (passed .p-board) (passed .q-board))
 
-    module _ (p-board : getD ws 0 0 < v) (q-board : getD ws 1 0 < v) where
-      on-boards : relationLine v ws ≡ read-relation v ws
-      unfolding boards-fit
-      on-boards = fitting ∙ need-passed 4 (boards-fit v ws) _ (boards-in (getD ws 0 0) (getD ws 1 0) v p-board q-board)
+    -- what is found, by what `evaluate` finds of the words that code lends it, k of them
+    module _ (k : ℕ) (width : k ≡ getD ws 2 0) where
+      lent : (e : Expression) → Finds (take (3 + k - 3) (drop 3 ws)) e → Finds (take (getD ws 2 0) (drop 3 ws)) e
+      lent e f = subst (λ (n : ℕ). Finds (take n (drop 3 ws)) e) (part k (getD ws 2 0) width) f
 
-      pub relation-malformed : Finds (take (getD ws 2 0) (drop 3 ws)) Malformed → FindsRelation v ws (relation.Refused (refusal 5))
+      pub relation-malformed : Finds (take (3 + k - 3) (drop 3 ws)) Malformed → FindsRelation v ws (relation.Refused (refusal 5))
       unfolding read-relation
       relation-malformed f =
-          let e : relationLine v ws ≡ refused 5 = on-boards ∙ rw (no-operand (take (getD ws 2 0) (drop 3 ws)) f) in sym (ap relationFound e)
+          let e : relationLine v ws ≡ refused 5 = on-boards ∙ rw (no-operand (take (getD ws 2 0) (drop 3 ws)) (lent Malformed f)) in
+          sym (ap relationFound e)
 
-      module _ (x n : ℕ) (finds : Finds (take (getD ws 2 0) (drop 3 ws)) (Set x n)) where
+      module _ (x n : ℕ) (finds : Finds (take (3 + k - 3) (drop 3 ws)) (Set x n)) where
         pub relation-left-over : 0 < n → FindsRelation v ws (relation.Refused (refusal 5))
         unfolding read-relation
         relation-left-over h =
-            let o = operand _ x n finds in
+            let o = operand _ x n (lent (Set x n) finds) in
             let l : 0 < length (o .rest) = omega (arith, o .left) in
             let e : relationLine v ws ≡ refused 5 = on-boards ∙ rw (o .reads, left-over x (o .rest) l) in
             sym (ap relationFound e)
@@ -174,7 +196,7 @@ module _ (v : ℕ) (ws : List ℕ) (three : 3 ≤ length ws) where
             → FindsRelation v ws (relation.Line (record { p = getD ws 0 0; q = getD ws 1 0; allowed = x }) (length ws - (3 + getD ws 2 0)))
         unfolding relation-front read-relation
         relation-read h =
-            let o = operand _ x n finds in
+            let o = operand _ x n (lent (Set x n) finds) in
             let l : length (o .rest) ≤ 0 = omega (arith, o .left) in
             let e : relationLine v ws ≡ good (relation-front v ws x) = on-boards ∙ rw (o .reads, none-over x (o .rest) l) in
             rw (e, after (getD ws 2 0) ws)

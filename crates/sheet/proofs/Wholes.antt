@@ -1,12 +1,12 @@
 -- A whole description, by its header and its two sections. Assumes nothing.
 use mathlib.Core.Path.{_≡_, refl, sym, ap, _∙_, subst}
-use mathlib.Core.Bool.{Bool, true, false, not, _&&_}
+use mathlib.Core.Bool.{Bool, true, false, _&&_}
 use mathlib.Core.List.{List}
 use Prim.Native.Nat.{ℕ, _-_, _≤_}
 use native.Mathlib.Omega.{arith}
 use lib.Dec.{T, leb, eqb, leb→le, le→leb, eqb→eq}
 use lib.ListN.{length, getD, take, drop}
-use borrow.Author.Tests.{eq-eqb, eqb-true, eqb-false, not-true, not-false}
+use borrow.Author.Tests.{eq-eqb}
 use Rattle.rules.specs.Descriptions.{mostBoards, mostLines, mostKinds, RelationLine, KindLine, Sheet, Reading, good, refused, need, next, relationLine, kindLine, section, numbersFit, offsetsFit, relationLines, kindLines, read}
 use Rattle.rules.specs.Calls.{reading}
 use Rattle.rules.proofs.Tests.{true-T, and-T, T-and-left, T-and-right}
@@ -18,13 +18,6 @@ use Rattle.sheet.specs.declared.header.HeaderFound.the-variants.{Good, R
 use Rattle.sheet.specs.declared.sections.SectionFound.{SectionFound}
 use Rattle.sheet.specs.declared.sections.SectionFound.the-variants as sections
 use Rattle.sheet.specs.Found.{refusal, sectionFound, numbers, numbersFound, headerFound, descriptionFound}
-
--- a test of numbers that differ, denied or not
-pub unequal : (a b : ℕ) → not (eqb a b) ≡ true → a ≡ b → ⊥
-unequal a b p = eqb-false a b (not-true (eqb a b) p)
-
-pub equal : (a b : ℕ) → not (eqb a b) ≡ false → a ≡ b
-equal a b p = eqb-true a b (not-false (eqb a b) p)
 
 -- ---- the header
 

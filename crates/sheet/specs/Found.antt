@@ -1,6 +1,6 @@
 -- What the reader's functions give, by the definitions of a description. Assumes nothing.
 use mathlib.Core.List.{List}
-use Prim.Native.Nat.{ℕ}
+use Prim.Native.Nat.{ℕ, zero, suc}
 use lib.ListN.{length, getD}
 use Rattle.rules.specs.Expressions.{Value, value, malformed}
 use Rattle.rules.specs.Descriptions as descriptions
@@ -43,6 +43,11 @@ kindFound (refused n) = kind.Refused (refusal n)
 abbrev pub sectionFound : {X : Type 0} → Reading X → SectionFound
 sectionFound (good x) = section.Filled
 sectionFound (refused n) = section.Refused (refusal n)
+
+-- a section after its last line, by the number of words left over
+abbrev pub endFound : ℕ → SectionFound
+endFound zero = section.Filled
+endFound (suc n) = section.Refused (refusal 3)
 
 -- the header's numbers
 abbrev pub numbers : List ℕ → Header

@@ -4,6 +4,11 @@ ghost use Rattle.sheet.specs.Found.{headerFound};
 use crate::lines::Refusal;
 use crate::words::wide;
 
+// The refusals of a header: it has too few words or a number is out of range, an offset or the total is wrong.
+pub const OUT_OF_RANGE: u8 = 1;
+
+pub const MISPLACED: u8 = 2;
+
 // The numbers of boards, relation lines and kind lines, and where the kind lines begin.
 pub struct Header {
     pub boards: usize,
@@ -33,19 +38,23 @@ pub fn read_header(words: &[u16]) -> HeaderFound
     ensures { λ r. ⌜ r ≡ headerFound (now (words .entry)) ⌝ }
 {
     if words.len() < WORDS {
-        return HeaderFound::Refused(Refusal { number: 1 });
+        return HeaderFound::Refused(Refusal {
+            number: OUT_OF_RANGE,
+        });
     }
     let boards = wide(words[0]);
     let lines = wide(words[1]);
     let kinds = wide(words[2]);
     if boards < 1 || MOST_BOARDS < boards || MOST_LINES < lines || MOST_KINDS < kinds {
-        return HeaderFound::Refused(Refusal { number: 1 });
+        return HeaderFound::Refused(Refusal {
+            number: OUT_OF_RANGE,
+        });
     }
     let first = wide(words[3]);
     let middle = wide(words[4]);
     let total = wide(words[5]);
     if first != WORDS || middle < WORDS || total < middle || total != words.len() {
-        return HeaderFound::Refused(Refusal { number: 2 });
+        return HeaderFound::Refused(Refusal { number: MISPLACED });
     }
     HeaderFound::Good(Header {
         boards: boards,

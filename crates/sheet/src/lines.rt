@@ -5,6 +5,13 @@ ghost use Rattle.sheet.specs.Found.{relationFound, kindFound};
 use crate::expressions::Expression;
 use crate::words::wide;
 
+// The refusals of a line: it does not fit its section, it names a board that the site has not, its expression is malformed.
+pub const UNFIT: u8 = 3;
+
+pub const NO_BOARD: u8 = 4;
+
+pub const NO_EXPRESSION: u8 = 5;
+
 // A refusal's number.
 pub struct Refusal {
     pub number: u8,
@@ -44,23 +51,27 @@ pub fn relation_line(v: usize, words: &[u16]) -> RelationFound
     ensures { λ r. ⌜ r ≡ relationFound (relationLine v (now (words .entry))) ⌝ }
 {
     if words.len() < 3 {
-        return RelationFound::Refused(Refusal { number: 3 });
+        return RelationFound::Refused(Refusal { number: UNFIT });
     }
     let n = wide(words[2]);
     if n < 1 || MOST_WORDS < n || words.len() - 3 < n {
-        return RelationFound::Refused(Refusal { number: 3 });
+        return RelationFound::Refused(Refusal { number: UNFIT });
     }
     let p = wide(words[0]);
     let q = wide(words[1]);
     if v <= p || v <= q {
-        return RelationFound::Refused(Refusal { number: 4 });
+        return RelationFound::Refused(Refusal { number: NO_BOARD });
     }
     let end = 3 + n;
     let Expression::Set(x, left) = crate::expressions::evaluate(&words[3..end]) else {
-        return RelationFound::Refused(Refusal { number: 5 });
+        return RelationFound::Refused(Refusal {
+            number: NO_EXPRESSION,
+        });
     };
     if 0 < left {
-        return RelationFound::Refused(Refusal { number: 5 });
+        return RelationFound::Refused(Refusal {
+            number: NO_EXPRESSION,
+        });
     }
     RelationFound::Line(
         RelationLine {
@@ -91,16 +102,16 @@ pub fn kind_line(v: usize, words: &[u16]) -> KindFound
     ensures { λ r. ⌜ r ≡ kindFound (kindLine v (now (words .entry))) ⌝ }
 {
     if words.len() < 3 {
-        return KindFound::Refused(Refusal { number: 3 });
+        return KindFound::Refused(Refusal { number: UNFIT });
     }
     let n = wide(words[2]);
     if MOST_WAYS < n || words.len() - 3 < n {
-        return KindFound::Refused(Refusal { number: 3 });
+        return KindFound::Refused(Refusal { number: UNFIT });
     }
     let p = wide(words[0]);
     let end = 3 + n;
     if v <= p || !boards_only(v, &words[3..end]) {
-        return KindFound::Refused(Refusal { number: 4 });
+        return KindFound::Refused(Refusal { number: NO_BOARD });
     }
     KindFound::Line(
         KindLine {

@@ -1,15 +1,27 @@
 // The two sections of lines, each filled exactly by its lines.
 ghost use mathlib.Core.Path.{_≡_};
 ghost use Rattle.rules.specs.Descriptions.{relationLine, kindLine, section};
-ghost use Rattle.sheet.specs.Found.{sectionFound};
+ghost use Rattle.sheet.specs.Found.{sectionFound, endFound};
 use crate::lines::KindFound;
 use crate::lines::Refusal;
 use crate::lines::RelationFound;
+use crate::lines::UNFIT;
 
 // A section that its lines fill, or the first refusal in it.
 pub enum SectionFound {
     Filled,
     Refused(Refusal),
+}
+
+// A section after its last line: words left over are refused.
+fn ended(over: usize) -> SectionFound
+    ensures { λ r. ⌜ r ≡ endFound over ⌝ }
+{
+    if 0 < over {
+        SectionFound::Refused(Refusal { number: UNFIT })
+    } else {
+        SectionFound::Filled
+    }
 }
 
 // Reads as many relation lines as this, for boards below v.
@@ -26,11 +38,7 @@ pub fn relation_lines(v: usize, count: usize, words: &[u16]) -> SectionFound
         at = words.len() - rest;
         left -= 1;
     }
-    if at < words.len() {
-        SectionFound::Refused(Refusal { number: 3 })
-    } else {
-        SectionFound::Filled
-    }
+    ended(words.len() - at)
 }
 
 // Reads as many kind lines as this, for boards below v.
@@ -47,9 +55,5 @@ pub fn kind_lines(v: usize, count: usize, words: &[u16]) -> SectionFound
         at = words.len() - rest;
         left -= 1;
     }
-    if at < words.len() {
-        SectionFound::Refused(Refusal { number: 3 })
-    } else {
-        SectionFound::Filled
-    }
+    ended(words.len() - at)
 }

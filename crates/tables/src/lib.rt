@@ -5,6 +5,10 @@ ghost use Rattle.rules.specs.Calls.{fresh};
 ghost use Rattle.answers.specs.Answers.{outcome};
 use answers::Answer;
 use sheet::header::MOST_BOARDS;
+use sheet::header::OUT_OF_RANGE;
+
+// The refusal of a table: it has a wrong number of cells, or a cell that is no set.
+pub const NO_TABLE: u8 = 6;
 
 // Sets every cell to one set.
 fn fill(table: &mut [u8], set: u8)
@@ -24,13 +28,13 @@ pub fn fresh(v: usize, table: &mut [u8]) -> Answer
 {
     if v < 1 || MOST_BOARDS < v {
         return Answer {
-            number: 1,
+            number: OUT_OF_RANGE,
             count: 0,
         };
     }
     if table.len() != v * v {
         return Answer {
-            number: 6,
+            number: NO_TABLE,
             count: 0,
         };
     }

@@ -1,9 +1,9 @@
 -- `description` meets its contract: the header and the two sections, each as its reader finds it. Assumes nothing.
+use borrow.Author.Needs.{needs}
 use mathlib.Core.Path.{sym, _∙_}
 use Prim.Native.Nat.{_≤_}
 use lib.ListN.{length}
 use Rattle.sheet.proofs.Wholes.{headed, middle-after, middle-within, relation-part, kind-part, description-unheaded, description-no-lines, description-no-kinds, description-read}
-use borrow.Author.Needs.{needs}
 use Rattle.sheet.proofs.description.Statement.{statement}
 use Rattle.sheet.proofs.description.Tie as tie
 
@@ -17,16 +17,30 @@ enum-known-r : tie.Need-enum-known-r
 enum-known-r c = search needs
 
 returns : tie.Need-returns
-returns c = description-unheaded (c .before .before .before .before .before .args .words .now) _ (sym (c .before .r .given .1) ∙ c .before .before .before .read-header .ensures)
+returns c =
+    let start = c .before .before .before .before .before in
+    description-unheaded (start .args .words .now) _ (sym (c .before .r .given .1) ∙ c .before .before .before .read-header .ensures)
 
 sub-relation-lines : tie.Need-sub-relation-lines
-sub-relation-lines c = middle-after (c .before .before .before .before .before .args .words .now) (headed (c .before .before .before .before .before .args .words .now) _ (sym (c .before .h .given .1) ∙ c .before .before .before .read-header .ensures))
+sub-relation-lines c =
+    let start = c .before .before .before .before .before in
+    let head = c .before in
+    let h = headed (start .args .words .now) _ (sym (head .h .given .1) ∙ head .before .before .read-header .ensures) in
+    middle-after (start .args .words .now) h
 
 part-relation-lines-start : tie.Need-part-relation-lines-start
-part-relation-lines-start c = middle-after (c .before .before .before .before .before .args .words .now) (headed (c .before .before .before .before .before .args .words .now) _ (sym (c .before .h .given .1) ∙ c .before .before .before .read-header .ensures))
+part-relation-lines-start c =
+    let start = c .before .before .before .before .before in
+    let head = c .before in
+    let h = headed (start .args .words .now) _ (sym (head .h .given .1) ∙ head .before .before .read-header .ensures) in
+    middle-after (start .args .words .now) h
 
 part-relation-lines-end : tie.Need-part-relation-lines-end
-part-relation-lines-end c = middle-within (c .before .before .before .before .before .args .words .now) (headed (c .before .before .before .before .before .args .words .now) _ (sym (c .before .h .given .1) ∙ c .before .before .before .read-header .ensures))
+part-relation-lines-end c =
+    let start = c .before .before .before .before .before in
+    let head = c .before in
+    let h = headed (start .args .words .now) _ (sym (head .h .given .1) ∙ head .before .before .read-header .ensures) in
+    middle-within (start .args .words .now) h
 
 relation-lines-requires : tie.Need-relation-lines-requires
 relation-lines-requires c κs = search needs
@@ -35,19 +49,36 @@ enum-known-lines : tie.Need-enum-known-lines
 enum-known-lines c = search needs
 
 returns-2 : tie.Need-returns-2
-returns-2 c = description-no-lines (c .before .before .before .before .before .before .before .before .before .before .args .words .now) (headed (c .before .before .before .before .before .before .before .before .before .before .args .words .now) _ (sym (c .before .before .before .before .before .before .h .given .1) ∙ c .before .before .before .before .before .before .before .before .read-header .ensures)) _ (relation-part (c .before .before .before .before .before .before .before .before .before .before .args .words .now) (headed (c .before .before .before .before .before .before .before .before .before .before .args .words .now) _ (sym (c .before .before .before .before .before .before .h .given .1) ∙ c .before .before .before .before .before .before .before .before .read-header .ensures)) _ (sym (c .before .lines .given .1) ∙ c .before .before .before .relation-lines .ensures))
+returns-2 c =
+    let start = c .before .before .before .before .before .before .before .before .before .before in
+    let head = c .before .before .before .before .before .before in
+    let h = headed (start .args .words .now) _ (sym (head .h .given .1) ∙ head .before .before .read-header .ensures) in
+    description-no-lines (start .args .words .now) h _ (relation-part (start .args .words .now) h _ (sym (c .before .lines .given .1) ∙ c .before .before .before .relation-lines .ensures))
 
 enum-told : tie.Need-enum-told
 enum-told c = search needs
 
 mul-kind-lines : tie.Need-mul-kind-lines
-mul-kind-lines c = let h : c .before .before .before .before .before .h .given .0 .0 .middle ≤ length (c .before .before .before .before .before .before .before .before .before .args .words .now) = middle-within (c .before .before .before .before .before .before .before .before .before .args .words .now) (headed (c .before .before .before .before .before .before .before .before .before .args .words .now) _ (sym (c .before .before .before .before .before .h .given .1) ∙ c .before .before .before .before .before .before .before .read-header .ensures)) in search needs
+mul-kind-lines c =
+    let start = c .before .before .before .before .before .before .before .before .before in
+    let head = c .before .before .before .before .before in
+    let h = headed (start .args .words .now) _ (sym (head .h .given .1) ∙ head .before .before .read-header .ensures) in
+    let l : head .h .given .0 .0 .middle ≤ length (start .args .words .now) = middle-within (start .args .words .now) h in
+    search needs
 
 sub-kind-lines : tie.Need-sub-kind-lines
-sub-kind-lines c = middle-within (c .before .before .before .before .before .before .before .before .before .args .words .now) (headed (c .before .before .before .before .before .before .before .before .before .args .words .now) _ (sym (c .before .before .before .before .before .h .given .1) ∙ c .before .before .before .before .before .before .before .read-header .ensures))
+sub-kind-lines c =
+    let start = c .before .before .before .before .before .before .before .before .before in
+    let head = c .before .before .before .before .before in
+    let h = headed (start .args .words .now) _ (sym (head .h .given .1) ∙ head .before .before .read-header .ensures) in
+    middle-within (start .args .words .now) h
 
 part-kind-lines-start : tie.Need-part-kind-lines-start
-part-kind-lines-start c = middle-within (c .before .before .before .before .before .before .before .before .before .args .words .now) (headed (c .before .before .before .before .before .before .before .before .before .args .words .now) _ (sym (c .before .before .before .before .before .h .given .1) ∙ c .before .before .before .before .before .before .before .read-header .ensures))
+part-kind-lines-start c =
+    let start = c .before .before .before .before .before .before .before .before .before in
+    let head = c .before .before .before .before .before in
+    let h = headed (start .args .words .now) _ (sym (head .h .given .1) ∙ head .before .before .read-header .ensures) in
+    middle-within (start .args .words .now) h
 
 part-kind-lines-end : tie.Need-part-kind-lines-end
 part-kind-lines-end c = search needs
@@ -59,13 +90,27 @@ enum-known-kinds : tie.Need-enum-known-kinds
 enum-known-kinds c = search needs
 
 returns-3 : tie.Need-returns-3
-returns-3 c = description-no-kinds (c .before .before .before .before .before .before .before .before .before .before .before .before .before .before .args .words .now) (headed (c .before .before .before .before .before .before .before .before .before .before .before .before .before .before .args .words .now) _ (sym (c .before .before .before .before .before .before .before .before .before .before .h .given .1) ∙ c .before .before .before .before .before .before .before .before .before .before .before .before .read-header .ensures)) (relation-part (c .before .before .before .before .before .before .before .before .before .before .before .before .before .before .args .words .now) (headed (c .before .before .before .before .before .before .before .before .before .before .before .before .before .before .args .words .now) _ (sym (c .before .before .before .before .before .before .before .before .before .before .h .given .1) ∙ c .before .before .before .before .before .before .before .before .before .before .before .before .read-header .ensures)) _ (sym (c .before .before .before .before .before .enum-told .given .1) ∙ c .before .before .before .before .before .before .before .relation-lines .ensures)) _ (kind-part (c .before .before .before .before .before .before .before .before .before .before .before .before .before .before .args .words .now) (headed (c .before .before .before .before .before .before .before .before .before .before .before .before .before .before .args .words .now) _ (sym (c .before .before .before .before .before .before .before .before .before .before .h .given .1) ∙ c .before .before .before .before .before .before .before .before .before .before .before .before .read-header .ensures)) _ (sym (c .before .kinds .given .1) ∙ c .before .before .before .kind-lines .ensures))
+returns-3 c =
+    let start = c .before .before .before .before .before .before .before .before .before .before .before .before .before .before in
+    let head = c .before .before .before .before .before .before .before .before .before .before in
+    let h = headed (start .args .words .now) _ (sym (head .h .given .1) ∙ head .before .before .read-header .ensures) in
+    let lines = c .before .before .before .before .before in
+    description-no-kinds (start .args .words .now) h
+    (relation-part (start .args .words .now) h _ (sym (lines .enum-told .given .1) ∙ lines .before .before .relation-lines .ensures)) _
+    (kind-part (start .args .words .now) h _ (sym (c .before .kinds .given .1) ∙ c .before .before .before .kind-lines .ensures))
 
 enum-told-2 : tie.Need-enum-told-2
 enum-told-2 c = search needs
 
 returns-4 : tie.Need-returns-4
-returns-4 c = description-read (c .before .before .before .before .before .before .before .before .before .before .before .before .before .args .words .now) (headed (c .before .before .before .before .before .before .before .before .before .before .before .before .before .args .words .now) _ (sym (c .before .before .before .before .before .before .before .before .before .h .given .1) ∙ c .before .before .before .before .before .before .before .before .before .before .before .read-header .ensures)) (relation-part (c .before .before .before .before .before .before .before .before .before .before .before .before .before .args .words .now) (headed (c .before .before .before .before .before .before .before .before .before .before .before .before .before .args .words .now) _ (sym (c .before .before .before .before .before .before .before .before .before .h .given .1) ∙ c .before .before .before .before .before .before .before .before .before .before .before .read-header .ensures)) _ (sym (c .before .before .before .before .enum-told .given .1) ∙ c .before .before .before .before .before .before .relation-lines .ensures)) (kind-part (c .before .before .before .before .before .before .before .before .before .before .before .before .before .args .words .now) (headed (c .before .before .before .before .before .before .before .before .before .before .before .before .before .args .words .now) _ (sym (c .before .before .before .before .before .before .before .before .before .h .given .1) ∙ c .before .before .before .before .before .before .before .before .before .before .before .read-header .ensures)) _ (sym (c .enum-told2 .given .1) ∙ c .before .before .kind-lines .ensures))
+returns-4 c =
+    let start = c .before .before .before .before .before .before .before .before .before .before .before .before .before in
+    let head = c .before .before .before .before .before .before .before .before .before in
+    let h = headed (start .args .words .now) _ (sym (head .h .given .1) ∙ head .before .before .read-header .ensures) in
+    let lines = c .before .before .before .before in
+    description-read (start .args .words .now) h
+    (relation-part (start .args .words .now) h _ (sym (lines .enum-told .given .1) ∙ lines .before .before .relation-lines .ensures))
+    (kind-part (start .args .words .now) h _ (sym (c .enum-told2 .given .1) ∙ c .before .before .kind-lines .ensures))
 
 pub description-spec : {M : Type 1} → statement M
 description-spec =

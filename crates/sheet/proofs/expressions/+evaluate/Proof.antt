@@ -3,10 +3,12 @@ use Prim.Native.Nat.{ℕ, _-_, _<_}
 use native.Mathlib.Nat.{pos-of-ne-zero, le-of-lt}
 use native.Mathlib.Omega.{arith}
 use borrow.Author.Needs.{needs}
-use lib.ListN.{length, drop}
+use lib.ListN.{length, take, drop}
 use mathlib.Core.Path.{sym, subst, _∙_}
 use mathlib.Core.List.{List}
+use Rattle.sheet.specs.declared.expressions.Expression.{Expression}
 use Rattle.sheet.specs.declared.expressions.Expression.the-variants.{Set, Malformed}
+use Rattle.rules.specs.Relations.{sets}
 use Rattle.rules.proofs.Parts.{tail, tail-length}
 use borrow.Fn.Kinds.{In}
 use borrow.Fn.PlainCycle.{Measures, is, falls, and}
@@ -48,41 +50,55 @@ calls t = (
   meet-reads.Learnt,
 )
 
--- what the first operand is found to be, once it is there
-first : (t : ℕ) (c : evaluate-lts.After-known-told (calls t) (evaluate-at t) evaluate.Post)
-    → evaluation.Finds (drop 1 (c .before .before .before .before .before .before .before .before .before .before .args .words .now))
-    (Set (c .before .x .given .0 .0) (c .before .x .given .0 .1 .0))
-first t c =
-    subst (λ (us : List ℕ). evaluation.Finds us (Set (c .before .x .given .0 .0) (c .before .x .given .0 .1 .0)))
-    (tail 1 (c .before .before .before .before .before .before .before .before .before .before .args .words .now))
-    (sym (c .before .x .given .1) ∙ c .before .before .before .evaluate .ensures)
+-- how `evaluate` finds a part of the words that is lent to it, as it finds what is left after k of them
+lent : (k : ℕ) (ws : List ℕ) (e : Expression) → evaluation.Finds (take (length ws - k) (drop k ws)) e → evaluation.Finds (drop k ws) e
+lent k ws e f = subst (λ (us : List ℕ). evaluation.Finds us e) (tail k ws) f
 
-first-operand : (t : ℕ) (c : evaluate-lts.After-known-told (calls t) (evaluate-at t) evaluate.Post)
-    → evaluation.Operand (drop 1 (c .before .before .before .before .before .before .before .before .before .before .args .words .now))
-    (c .before .x .given .0 .0) (c .before .x .given .0 .1 .0)
-first-operand t c = evaluation.operand _ _ _ (first t c)
+-- where the first operand is there, and where the second is
+abbrev AtFirst : ℕ → Type 0
+AtFirst t = evaluate-lts.After-known-told (calls t) (evaluate-at t) evaluate.Post
 
--- the second operand starts within the words, and there are fewer from there on
-second-within : (t : ℕ) (c : evaluate-lts.Else5 (calls t) (evaluate-at t) evaluate.Post)
-    → (c .before .before .before .x .given .0 .1 .0) < length (c .before .before .before .before .before .before .before .before .before .before .before .before .args .words .now)
-second-within t c = evaluation.second-at (c .before .before .before .before .before .before .before .before .before .before .before .before .args .words .now) (c .before .before .before .before .before .before .before .before .before .before .if1 .left) _ _ (first t (c .before .before)) .0
+abbrev AtSecond : ℕ → Type 0
+AtSecond t = evaluate-lts.After-known-told2 (calls t) (evaluate-at t) evaluate.Post
 
--- what the second operand is found to be, once it is there
-second : (t : ℕ) (c : evaluate-lts.After-known-told2 (calls t) (evaluate-at t) evaluate.Post)
-    → evaluation.Finds (drop (length (c .before .before .before .before .before .before .before .before .before .before .before .before .before .before .before .before .before .args .words .now) - c .before .before .before .before .before .before .before .before .x .given .0 .1 .0) (c .before .before .before .before .before .before .before .before .before .before .before .before .before .before .before .before .before .args .words .now))
-    (Set (c .before .y .given .0 .0) (c .before .y .given .0 .1 .0))
-second t c =
-    subst (λ (us : List ℕ). evaluation.Finds us (Set (c .before .y .given .0 .0) (c .before .y .given .0 .1 .0)))
-    (tail (length (c .before .before .before .before .before .before .before .before .before .before .before .before .before .before .before .before .before .args .words .now) - c .before .before .before .before .before .before .before .before .x .given .0 .1 .0) (c .before .before .before .before .before .before .before .before .before .before .before .before .before .before .before .before .before .args .words .now))
-    (sym (c .before .y .given .1) ∙ c .before .before .before .evaluate2 .ensures)
+module _ (t : ℕ) (c : AtFirst t) where
+  abbrev words : List ℕ
+  words = c .before .before .before .before .before .before .before .before .before .before .args .words .now
 
-second-operand : (t : ℕ) (c : evaluate-lts.After-known-told2 (calls t) (evaluate-at t) evaluate.Post)
-    → evaluation.Operand (drop (length (c .before .before .before .before .before .before .before .before .before .before .before .before .before .before .before .before .before .args .words .now) - c .before .before .before .before .before .before .before .before .x .given .0 .1 .0) (c .before .before .before .before .before .before .before .before .before .before .before .before .before .before .before .before .before .args .words .now))
-    (c .before .y .given .0 .0) (c .before .y .given .0 .1 .0)
-second-operand t c = evaluation.operand _ _ _ (second t c)
+  -- the number of words after the first operand
+  abbrev left : ℕ
+  left = c .before .x .given .0 .1 .0
+
+  operates : evaluation.Operates words
+  operates = record { some = c .before .before .before .before .before .before .before .before .if1 .left; least = c .before .before .before .before .before .before .if2 .left; most = c .before .before .before .before .before .if3 .left }
+
+  first : evaluation.Finds (drop 1 words) (Set (c .before .x .given .0 .0) left)
+  first = lent 1 words _ (sym (c .before .x .given .1) ∙ c .before .before .before .evaluate .ensures)
+
+  first-small : c .before .x .given .0 .0 < sets
+  first-small = evaluation.operand _ _ _ first .small
+
+  -- the second operand starts within the words, and there are fewer from there on
+  second-within : left < length words
+  second-within = evaluation.second-at words (operates .some) _ _ first .0
+
+module _ (t : ℕ) (c : AtSecond t) where
+  abbrev before-second : AtFirst t
+  before-second = c .before .before .before .before .before .before .before
+
+  second : evaluation.Finds (drop (length (words t before-second) - left t before-second) (words t before-second))
+      (Set (c .before .y .given .0 .0) (c .before .y .given .0 .1 .0))
+  second =
+      lent (length (words t before-second) - left t before-second) (words t before-second) _
+      (sym (c .before .y .given .1) ∙ c .before .before .before .evaluate2 .ensures)
+
+  second-small : c .before .y .given .0 .0 < sets
+  second-small = evaluation.operand _ _ _ second .small
 
 evaluate-returns : (t : ℕ) → evaluate-lts.Need-returns (calls t) (evaluate-at t) evaluate.Post
-evaluate-returns t c = evaluation.finds-nothing (c .before .before .args .words .now) (c .if1 .taken)
+evaluate-returns t c =
+    let start = c .before .before in
+    evaluation.finds-nothing (start .args .words .now) (c .if1 .taken)
 
 evaluate-shared-slice-read-code : (t : ℕ) → evaluate-lts.Need-shared-slice-read-code (calls t) (evaluate-at t) evaluate.Post
 evaluate-shared-slice-read-code t c = pos-of-ne-zero (c .before .if1 .left)
@@ -97,10 +113,14 @@ evaluate-sub-t18 : (t : ℕ) → evaluate-lts.Need-sub-t18 (calls t) (evaluate-a
 evaluate-sub-t18 t c = pos-of-ne-zero (c .before .before .before .if1 .left)
 
 evaluate-returns-2 : (t : ℕ) → evaluate-lts.Need-returns-2 (calls t) (evaluate-at t) evaluate.Post
-evaluate-returns-2 t c = rw (c .wide .ensures) (evaluation.finds-relation (c .before .before .before .before .before .args .words .now) (c .before .before .before .if1 .left) (c .before .if2 .taken))
+evaluate-returns-2 t c =
+    let start = c .before .before .before .before .before in
+    rw (c .wide .ensures) (evaluation.finds-relation (start .args .words .now) (c .before .before .before .if1 .left) (c .before .if2 .taken))
 
 evaluate-returns-3 : (t : ℕ) → evaluate-lts.Need-returns-3 (calls t) (evaluate-at t) evaluate.Post
-evaluate-returns-3 t c = evaluation.finds-unknown (c .before .before .before .before .before .args .words .now) (c .before .before .before .if1 .left) (c .if3 .taken)
+evaluate-returns-3 t c =
+    let start = c .before .before .before .before .before in
+    evaluation.finds-unknown (start .args .words .now) (c .before .before .before .if1 .left) (c .if3 .taken)
 
 evaluate-sub-evaluate : (t : ℕ) → evaluate-lts.Need-sub-evaluate (calls t) (evaluate-at t) evaluate.Post
 evaluate-sub-evaluate t c = pos-of-ne-zero (c .before .before .before .if1 .left)
@@ -112,7 +132,10 @@ evaluate-part-evaluate-end : (t : ℕ) → evaluate-lts.Need-part-evaluate-end (
 evaluate-part-evaluate-end t c = search needs
 
 evaluate-evaluate-requires : (t : ℕ) → evaluate-lts.Need-evaluate-requires (calls t) (evaluate-at t) evaluate.Post
-evaluate-evaluate-requires t c = λ _. (omega (arith, tail-length 1 (c .before .before .before .before .before .before .args .words .now), c .before .before .before .before .before .before .pre .0, pos-of-ne-zero (c .before .before .before .before .if1 .left)), omega (arith, tail-length 1 (c .before .before .before .before .before .before .args .words .now), c .before .before .before .before .before .before .pre .1))
+evaluate-evaluate-requires t c =
+    let start = c .before .before .before .before .before .before in
+    let l = tail-length 1 (start .args .words .now) in
+    λ _. (omega (arith, start .pre .0, pos-of-ne-zero (c .before .before .before .before .if1 .left)), omega (arith, start .pre .1))
 
 evaluate-enum-known-x : (t : ℕ) → evaluate-lts.Need-enum-known-x (calls t) (evaluate-at t) evaluate.Post
 evaluate-enum-known-x t c = search needs
@@ -121,22 +144,32 @@ evaluate-enum-told : (t : ℕ) → evaluate-lts.Need-enum-told (calls t) (evalua
 evaluate-enum-told t c = search needs
 
 evaluate-returns-4 : (t : ℕ) → evaluate-lts.Need-returns-4 (calls t) (evaluate-at t) evaluate.Post
-evaluate-returns-4 t c = evaluation.finds-no-first (c .before .before .before .before .before .before .before .before .before .args .words .now) (c .before .before .before .before .before .before .before .if1 .left) (omega (arith, c .before .before .before .before .before .if2 .left)) (omega (arith, c .before .before .before .before .if3 .left)) (subst (λ (us : List ℕ). evaluation.Finds us Malformed) (tail 1 (c .before .before .before .before .before .before .before .before .before .args .words .now)) (sym (c .enum-told .given .1) ∙ c .before .before .evaluate .ensures))
+evaluate-returns-4 t c =
+    let ws = c .before .before .before .before .before .before .before .before .before .args .words .now in
+    let some = c .before .before .before .before .before .before .before .if1 .left in
+    evaluation.finds-no-first ws some (record { some = some; least = c .before .before .before .before .before .if2 .left; most = c .before .before .before .before .if3 .left })
+    (lent 1 ws Malformed (sym (c .enum-told .given .1) ∙ c .before .before .evaluate .ensures))
 
 evaluate-complement-requires : (t : ℕ) → evaluate-lts.Need-complement-requires (calls t) (evaluate-at t) evaluate.Post
-evaluate-complement-requires t c = λ _. first-operand t (c .before) .small
+evaluate-complement-requires t c = λ _. first-small t (c .before)
 
 evaluate-returns-5 : (t : ℕ) → evaluate-lts.Need-returns-5 (calls t) (evaluate-at t) evaluate.Post
-evaluate-returns-5 t c = rw (c .complement .ensures) (evaluation.finds-complement (c .before .before .before .before .before .before .before .before .before .before .before .before .args .words .now) (c .before .before .before .before .before .before .before .before .before .before .if1 .left) _ _ (first t (c .before .before)) (c .before .if4 .taken))
+evaluate-returns-5 t c =
+    let head = c .before .before in
+    rw (c .complement .ensures)
+    (evaluation.finds-complement (words t head) (operates t head .some) _ _ (first t head) (c .before .if4 .taken))
 
 evaluate-converse-requires : (t : ℕ) → evaluate-lts.Need-converse-requires (calls t) (evaluate-at t) evaluate.Post
-evaluate-converse-requires t c = λ _. first-operand t (c .before .before) .small
+evaluate-converse-requires t c = λ _. first-small t (c .before .before)
 
 evaluate-returns-6 : (t : ℕ) → evaluate-lts.Need-returns-6 (calls t) (evaluate-at t) evaluate.Post
-evaluate-returns-6 t c = rw (c .converse .ensures) (evaluation.finds-converse (c .before .before .before .before .before .before .before .before .before .before .before .before .before .args .words .now) (c .before .before .before .before .before .before .before .before .before .before .before .if1 .left) _ _ (first t (c .before .before .before)) (c .before .if5 .taken))
+evaluate-returns-6 t c =
+    let head = c .before .before .before in
+    rw (c .converse .ensures)
+    (evaluation.finds-converse (words t head) (operates t head .some) _ _ (first t head) (c .before .if5 .taken))
 
 evaluate-sub-second : (t : ℕ) → evaluate-lts.Need-sub-second (calls t) (evaluate-at t) evaluate.Post
-evaluate-sub-second t c = le-of-lt (second-within t c)
+evaluate-sub-second t c = le-of-lt (second-within t (c .before .before))
 
 evaluate-mul-evaluate : (t : ℕ) → evaluate-lts.Need-mul-evaluate (calls t) (evaluate-at t) evaluate.Post
 evaluate-mul-evaluate t c = search needs
@@ -151,7 +184,11 @@ evaluate-part-evaluate-end-2 : (t : ℕ) → evaluate-lts.Need-part-evaluate-end
 evaluate-part-evaluate-end-2 t c = search needs
 
 evaluate-evaluate-requires-2 : (t : ℕ) → evaluate-lts.Need-evaluate-requires-2 (calls t) (evaluate-at t) evaluate.Post
-evaluate-evaluate-requires-2 t c = λ _. (omega (arith, tail-length (length (c .before .before .before .before .before .before .before .before .before .before .before .before .before .args .words .now) - c .before .before .before .before .x .given .0 .1 .0) (c .before .before .before .before .before .before .before .before .before .before .before .before .before .args .words .now), c .before .before .before .before .before .before .before .before .before .before .before .before .before .pre .0, second-within t (c .before)), omega (arith, tail-length (length (c .before .before .before .before .before .before .before .before .before .before .before .before .before .args .words .now) - c .before .before .before .before .x .given .0 .1 .0) (c .before .before .before .before .before .before .before .before .before .before .before .before .before .args .words .now), c .before .before .before .before .before .before .before .before .before .before .before .before .before .pre .1))
+evaluate-evaluate-requires-2 t c =
+    let start = c .before .before .before .before .before .before .before .before .before .before .before .before .before in
+    let head = c .before .before .before in
+    let l = tail-length (length (words t head) - left t head) (words t head) in
+    λ _. (omega (arith, start .pre .0, second-within t head), omega (arith, start .pre .1))
 
 evaluate-enum-known-y : (t : ℕ) → evaluate-lts.Need-enum-known-y (calls t) (evaluate-at t) evaluate.Post
 evaluate-enum-known-y t c = search needs
@@ -160,19 +197,31 @@ evaluate-enum-told-2 : (t : ℕ) → evaluate-lts.Need-enum-told-2 (calls t) (ev
 evaluate-enum-told-2 t c = search needs
 
 evaluate-returns-7 : (t : ℕ) → evaluate-lts.Need-returns-7 (calls t) (evaluate-at t) evaluate.Post
-evaluate-returns-7 t c = evaluation.finds-no-second (c .before .before .before .before .before .before .before .before .before .before .before .before .before .before .before .before .args .words .now) (c .before .before .before .before .before .before .before .before .before .before .before .before .before .before .if1 .left) _ _ (first t (c .before .before .before .before .before .before)) (c .before .before .before .before .before .before .before .before .before .before .before .before .if2 .left) (c .before .before .before .before .before .before .before .before .before .before .before .if3 .left) (c .before .before .before .before .before .if4 .left) (c .before .before .before .before .if5 .left) (subst (λ (us : List ℕ). evaluation.Finds us Malformed) (tail (length (c .before .before .before .before .before .before .before .before .before .before .before .before .before .before .before .before .args .words .now) - c .before .before .before .before .before .before .before .x .given .0 .1 .0) (c .before .before .before .before .before .before .before .before .before .before .before .before .before .before .before .before .args .words .now)) (sym (c .enum-told2 .given .1) ∙ c .before .before .evaluate2 .ensures))
+evaluate-returns-7 t c =
+    let head = c .before .before .before .before .before .before in
+    evaluation.finds-no-second (words t head) (operates t head .some) _ _ (first t head) (operates t head) (c .before .before .before .before .before .if4 .left) (c .before .before .before .before .if5 .left)
+    (lent (length (words t head) - left t head) (words t head) Malformed (sym (c .enum-told2 .given .1) ∙ c .before .before .evaluate2 .ensures))
 
 evaluate-join-requires : (t : ℕ) → evaluate-lts.Need-join-requires (calls t) (evaluate-at t) evaluate.Post
-evaluate-join-requires t c = λ _. (first-operand t (c .before .before .before .before .before .before .before .before) .small, second-operand t (c .before) .small)
+evaluate-join-requires t c =
+    λ _. (first-small t (c .before .before .before .before .before .before .before .before), second-small t (c .before))
 
 evaluate-meet-requires : (t : ℕ) → evaluate-lts.Need-meet-requires (calls t) (evaluate-at t) evaluate.Post
-evaluate-meet-requires t c = λ _. (first-operand t (c .before .before .before .before .before .before .before .before) .small, second-operand t (c .before) .small)
+evaluate-meet-requires t c =
+    λ _. (first-small t (c .before .before .before .before .before .before .before .before), second-small t (c .before))
 
 evaluate-returns-8 : (t : ℕ) → evaluate-lts.Need-returns-8 (calls t) (evaluate-at t) evaluate.Post
-evaluate-returns-8 t c = rw (c .join .ensures) (evaluation.finds-join (c .before .before .before .before .before .before .before .before .before .before .before .before .before .before .before .before .before .before .before .args .words .now) (c .before .before .before .before .before .before .before .before .before .before .before .before .before .before .before .before .before .if1 .left) _ _ (first t (c .before .before .before .before .before .before .before .before .before)) _ _ (second t (c .before .before)) (c .before .if6 .taken))
+evaluate-returns-8 t c =
+    let head = c .before .before .before .before .before .before .before .before .before in
+    rw (c .join .ensures)
+    (evaluation.finds-join (words t head) (operates t head .some) _ _ (first t head) _ _ (second t (c .before .before)) (c .before .if6 .taken))
 
 evaluate-returns-9 : (t : ℕ) → evaluate-lts.Need-returns-9 (calls t) (evaluate-at t) evaluate.Post
-evaluate-returns-9 t c = rw (c .meet .ensures) (evaluation.finds-meet (c .before .before .before .before .before .before .before .before .before .before .before .before .before .before .before .before .before .before .before .args .words .now) (c .before .before .before .before .before .before .before .before .before .before .before .before .before .before .before .before .before .if1 .left) _ _ (first t (c .before .before .before .before .before .before .before .before .before)) _ _ (second t (c .before .before)) (c .before .before .before .before .before .before .before .before .before .before .before .before .before .before .before .if2 .left) (c .before .before .before .before .before .before .before .before .before .before .before .before .before .before .if3 .left) (c .before .if6 .left) (c .before .before .before .before .before .before .before .before .if4 .left) (c .before .before .before .before .before .before .before .if5 .left))
+evaluate-returns-9 t c =
+    let head = c .before .before .before .before .before .before .before .before .before in
+    rw (c .meet .ensures)
+    (evaluation.finds-meet (words t head) (operates t head .some) _ _ (first t head) _ _ (second t (c .before .before)) (operates t head)
+    (c .before .if6 .left) (c .before .before .before .before .before .before .before .before .if4 .left) (c .before .before .before .before .before .before .before .if5 .left))
 
 pub +evaluate-spec : {M : Type 1} → statement M
 +evaluate-spec =

@@ -1,14 +1,16 @@
 -- `header::read_header` meets its contract: each of its ends is one of the laws of a header. Assumes nothing.
+use borrow.Author.Needs.{needs}
 use mathlib.Core.Logic.{⊎-elim}
 use native.Mathlib.Omega.{arith}
-use borrow.Author.Tests.{ltb-true, ltb-false, leb-true, leb-false}
-use Rattle.sheet.proofs.Wholes.{unequal, equal, header-unnumbered, header-misplaced, header-read}
-use borrow.Author.Needs.{needs}
+use Rattle.rules.proofs.Tests.{tested}
+use Rattle.sheet.proofs.Wholes.{header-unnumbered, header-misplaced, header-read}
 use Rattle.sheet.proofs.header.read_header.Statement.{statement}
 use Rattle.sheet.proofs.header.read_header.Tie as tie
 
 returns : tie.Need-returns
-returns c = header-unnumbered (c .before .before .args .words .now) (λ n. omega arith)
+returns c =
+    let start = c .before .before in
+    header-unnumbered (start .args .words .now) (λ n. omega arith)
 
 shared-slice-read-wide : tie.Need-shared-slice-read-wide
 shared-slice-read-wide c = search needs
@@ -29,7 +31,9 @@ wide-requires-3 : tie.Need-wide-requires-3
 wide-requires-3 c κs = search needs
 
 returns-2 : tie.Need-returns-2
-returns-2 c = header-unnumbered (c .before .before .before .before .before .before .before .before .before .args .words .now) (λ n. ⊎-elim (λ w. omega (arith, ltb-true, ltb-false, leb-true, leb-false, unequal, equal)) (⊎-elim (λ w. omega (arith, ltb-true, ltb-false, leb-true, leb-false, unequal, equal)) (⊎-elim (λ w. omega (arith, ltb-true, ltb-false, leb-true, leb-false, unequal, equal)) (λ w. omega (arith, ltb-true, ltb-false, leb-true, leb-false, unequal, equal)))) (c .if2 .came))
+returns-2 c =
+    let start = c .before .before .before .before .before .before .before .before .before in
+    header-unnumbered (start .args .words .now) (λ n. ⊎-elim (λ w. omega tested) (⊎-elim (λ w. omega tested) (⊎-elim (λ w. omega tested) (λ w. omega tested))) (c .if2 .came))
 
 shared-slice-read-wide-4 : tie.Need-shared-slice-read-wide-4
 shared-slice-read-wide-4 c = search needs
@@ -50,10 +54,23 @@ wide-requires-6 : tie.Need-wide-requires-6
 wide-requires-6 c κs = search needs
 
 returns-3 : tie.Need-returns-3
-returns-3 c = header-misplaced (c .before .before .before .before .before .before .before .before .before .before .before .before .before .before .before .before .before .before .before .args .words .now) (record { six = omega (arith, ltb-true, ltb-false, leb-true, leb-false, unequal, equal); some = omega (arith, ltb-true, ltb-false, leb-true, leb-false, unequal, equal); boards = omega (arith, ltb-true, ltb-false, leb-true, leb-false, unequal, equal); lines = omega (arith, ltb-true, ltb-false, leb-true, leb-false, unequal, equal); kinds = omega (arith, ltb-true, ltb-false, leb-true, leb-false, unequal, equal) }) (λ p. ⊎-elim (λ w. omega (arith, ltb-true, ltb-false, leb-true, leb-false, unequal, equal)) (⊎-elim (λ w. omega (arith, ltb-true, ltb-false, leb-true, leb-false, unequal, equal)) (⊎-elim (λ w. omega (arith, ltb-true, ltb-false, leb-true, leb-false, unequal, equal)) (λ w. omega (arith, ltb-true, ltb-false, leb-true, leb-false, unequal, equal)))) (c .if6 .came))
+returns-3 c =
+    let start = c .before .before .before .before .before .before .before .before .before .before .before .before .before .before .before .before .before .before .before in
+    header-misplaced (start .args .words .now)
+    (record { six = omega tested; some = omega tested; boards = omega tested; lines = omega tested; kinds = omega tested })
+    (λ p. ⊎-elim (λ w. omega tested) (⊎-elim (λ w. omega tested) (⊎-elim (λ w. omega tested) (λ w. omega tested))) (c .if6 .came))
 
 returns-4 : tie.Need-returns-4
-returns-4 c = rw (c .before .before .before .before .before .before .before .before .before .before .before .before .before .before .before .before .before .before .wide .ensures, c .before .before .before .before .before .before .before .before .before .before .before .before .before .before .before .before .wide2 .ensures, c .before .before .before .before .before .before .before .before .before .before .before .before .before .before .wide3 .ensures, c .before .before .before .before .before .before .wide5 .ensures) (header-read (c .before .before .before .before .before .before .before .before .before .before .before .before .before .before .before .before .before .before .before .before .before .before .args .words .now) (record { six = omega (arith, ltb-true, ltb-false, leb-true, leb-false, unequal, equal); some = omega (arith, ltb-true, ltb-false, leb-true, leb-false, unequal, equal); boards = omega (arith, ltb-true, ltb-false, leb-true, leb-false, unequal, equal); lines = omega (arith, ltb-true, ltb-false, leb-true, leb-false, unequal, equal); kinds = omega (arith, ltb-true, ltb-false, leb-true, leb-false, unequal, equal) }) (record { first = omega (arith, ltb-true, ltb-false, leb-true, leb-false, unequal, equal); after = omega (arith, ltb-true, ltb-false, leb-true, leb-false, unequal, equal); before = omega (arith, ltb-true, ltb-false, leb-true, leb-false, unequal, equal); total = omega (arith, ltb-true, ltb-false, leb-true, leb-false, unequal, equal) }))
+returns-4 c =
+    let start = c .before .before .before .before .before .before .before .before .before .before .before .before .before .before .before .before .before .before .before .before .before .before in
+    let boards = c .before .before .before .before .before .before .before .before .before .before .before .before .before .before .before .before .before .before in
+    let lines = c .before .before .before .before .before .before .before .before .before .before .before .before .before .before .before .before in
+    let kinds = c .before .before .before .before .before .before .before .before .before .before .before .before .before .before in
+    let middle = c .before .before .before .before .before .before in
+    rw (boards .wide .ensures, lines .wide2 .ensures, kinds .wide3 .ensures, middle .wide5 .ensures)
+    (header-read (start .args .words .now)
+    (record { six = omega tested; some = omega tested; boards = omega tested; lines = omega tested; kinds = omega tested })
+    (record { first = omega tested; after = omega tested; before = omega tested; total = omega tested }))
 
 pub read-header-spec : {M : Type 1} → statement M
 read-header-spec =

@@ -1,7 +1,7 @@
 -- `lines::boards_only` meets its contract: each word that was passed is a board. The measure is what is left of the words. Assumes nothing.
+use borrow.Author.Needs.{needs}
 use Prim.Native.Nat.{ℕ, _-_, _≤_, _<_}
 use native.Mathlib.Omega.{arith}
-use borrow.Author.Needs.{needs}
 use borrow.Author.Count.{below-more}
 use lib.ListN.{length, getD}
 use Rattle.sheet.proofs.Fronts.{some-no-board, all-boards}
@@ -27,7 +27,9 @@ wide-requires : tie.Need-wide-requires Inv-loop μ-loop
 wide-requires c κs = search needs
 
 returns : tie.Need-returns Inv-loop μ-loop
-returns c = some-no-board (c .before .before .before .before .before .before .args .v) (c .before .before .before .before .before .before .args .ways .now) (c .before .before .before .before .loop .i) (omega arith) (omega arith)
+returns c =
+    let start = c .before .before .before .before .before .before in
+    some-no-board (start .args .v) (start .args .ways .now) (c .before .before .before .before .loop .i) (omega arith) (omega arith)
 
 add-i : tie.Need-add-i Inv-loop μ-loop
 add-i c = omega arith
@@ -39,7 +41,9 @@ loop-again : tie.Need-loop-again Inv-loop μ-loop
 loop-again c = (omega arith, below-more _ _ (c .before .before .before .before .loop .inv .1) (omega arith))
 
 returns-2 : tie.Need-returns-2 Inv-loop μ-loop
-returns-2 c = all-boards (c .before .before .before .args .v) (c .before .before .before .args .ways .now) (λ k h. c .before .loop .inv .1 k (omega arith))
+returns-2 c =
+    let start = c .before .before .before in
+    all-boards (start .args .v) (start .args .ways .now) (λ k h. c .before .loop .inv .1 k (omega arith))
 
 pub boards-only-spec : {M : Type 1} → statement M
 boards-only-spec =

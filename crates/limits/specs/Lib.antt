@@ -1,0 +1,1 @@
+-- There is nothing that the contracts cite.

@@ -11,6 +11,7 @@ pub mod Arrangements
 pub mod Panels
 pub mod Stages
 pub mod Parts
+pub mod Walks
 pub mod Expressions
 pub mod Descriptions
 pub mod Narrowing

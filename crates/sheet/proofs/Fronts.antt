@@ -16,7 +16,7 @@ use Rattle.rules.proofs.Parts.{Suffix, drop-suffix}
 use Rattle.rules.proofs.Descriptions.{never, need-test, need-rest, need-passed, need-failed, next-out}
 use Rattle.sheet.specs.declared.expressions.Expression.{Expression}
 use Rattle.sheet.specs.declared.expressions.Expression.the-variants.{Set, Malformed}
-use Rattle.sheet.specs.declared.lines.Refusal.{Refusal}
+use Rattle.sheet.specs.declared.refusals.Refusal.{Refusal}
 use Rattle.sheet.specs.declared.lines.RelationLine as declared
 use Rattle.sheet.specs.declared.lines.KindLine as declared-kind
 use Rattle.sheet.specs.declared.lines.RelationFound.{RelationFound}
@@ -295,6 +295,20 @@ kind-suffix v (p ∷ q ∷ n ∷ ws) f e =
     let fits = leb n mostWays && leb n (length ws) in
     line-suffix p q n ws f (record { p = p; code = q; ways = take n ws })
     (need-rest 4 (ltb p v && boardsOnly v (take n ws)) _ f (need-rest 3 fits _ f e)) (ways-out n (length ws) (need-test 3 fits _ f e) .1)
+
+-- the ways of a line are the words after its third, as many as there are ways
+pub kind-ways : (v : ℕ) (ws : List ℕ) (f : Front KindLine) → kindLine v ws ≡ good f → f .line .ways ≡ take (length (f .line .ways)) (drop 3 ws)
+unfolding kindLine
+kind-ways v [] f e = never 3 f e
+kind-ways v (p ∷ []) f e = never 3 f e
+kind-ways v (p ∷ q ∷ []) f e = never 3 f e
+kind-ways v (p ∷ q ∷ n ∷ ws) f e =
+    let fits = leb n mostWays && leb n (length ws) in
+    let k : Front KindLine = record { line = record { p = p; code = q; ways = take n ws }; rest = drop n ws } in
+    let g : good k ≡ good f = need-rest 4 (ltb p v && boardsOnly v (take n ws)) _ f (need-rest 3 fits _ f e) in
+    let l : k ≡ f = cc in
+    let m : length (take n ws) ≡ n = length-take-le n ws (ways-out n (length ws) (need-test 3 fits _ f e) .1) in
+    subst (λ (h : Front KindLine). h .line .ways ≡ take (length (h .line .ways)) ws) l (ap (λ (i : ℕ). take i ws) (sym m))
 
 -- what was found, read back
 pub kind-line-out : (r : Reading (Front KindLine)) (l : declared-kind.KindLine) (k : ℕ) → kind.Line l k ≡ kindFound r

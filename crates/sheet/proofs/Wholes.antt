@@ -12,7 +12,7 @@ use Rattle.rules.specs.Calls.{reading}
 use Rattle.rules.proofs.Tests.{true-T, and-T, T-and-left, T-and-right}
 use Rattle.rules.proofs.Parts.{tail}
 use Rattle.rules.proofs.Descriptions.{need-passed, need-failed}
-use Rattle.sheet.specs.declared.lines.Refusal.{Refusal}
+use Rattle.sheet.specs.declared.refusals.Refusal.{Refusal}
 use Rattle.sheet.specs.declared.header.Header.{Header}
 use Rattle.sheet.specs.declared.header.HeaderFound.the-variants.{Good, Refused}
 use Rattle.sheet.specs.declared.sections.SectionFound.{SectionFound}

@@ -7,7 +7,7 @@ use Rattle.rules.specs.Descriptions as descriptions
 use Rattle.rules.specs.Descriptions.{Reading, good, refused, Front, need, numbersFit, offsetsFit, read}
 use Rattle.sheet.specs.declared.expressions.Expression.{Expression}
 use Rattle.sheet.specs.declared.expressions.Expression.the-variants.{Set, Malformed}
-use Rattle.sheet.specs.declared.lines.Refusal.{Refusal}
+use Rattle.sheet.specs.declared.refusals.Refusal.{Refusal}
 use Rattle.sheet.specs.declared.lines.RelationLine.{RelationLine}
 use Rattle.sheet.specs.declared.lines.KindLine.{KindLine}
 use Rattle.sheet.specs.declared.lines.RelationFound.{RelationFound}

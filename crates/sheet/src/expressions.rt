@@ -13,9 +13,10 @@ pub enum Expression {
     Malformed,
 }
 
-// The sets that the first codes stand for.
+// Codes 0 to 3 stand for these sets.
 const RELATIONS: [u8; 4] = [relations::E, relations::A, relations::B, relations::S];
 
+// 4 is union and 5 intersection, with two operands; 6 is complement and 7 inverse, with one.
 const UNION: u16 = 4;
 
 const COMPLEMENT: u16 = 6;

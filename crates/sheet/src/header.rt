@@ -1,13 +1,10 @@
 // The header of a description.
 ghost use mathlib.Core.Path.{_≡_};
 ghost use Rattle.sheet.specs.Found.{headerFound};
-use crate::lines::Refusal;
+use crate::refusals::MISPLACED;
+use crate::refusals::OUT_OF_RANGE;
+use crate::refusals::Refusal;
 use crate::words::wide;
-
-// The refusals of a header: it has too few words or a number is out of range, an offset or the total is wrong.
-pub const OUT_OF_RANGE: u8 = 1;
-
-pub const MISPLACED: u8 = 2;
 
 // The numbers of boards, relation lines and kind lines, and where the kind lines begin.
 pub struct Header {
@@ -57,9 +54,9 @@ pub fn read_header(words: &[u16]) -> HeaderFound
         return HeaderFound::Refused(Refusal { number: MISPLACED });
     }
     HeaderFound::Good(Header {
-        boards: boards,
-        lines: lines,
-        kinds: kinds,
-        middle: middle,
+        boards,
+        lines,
+        kinds,
+        middle,
     })
 }

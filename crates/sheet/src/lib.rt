@@ -2,17 +2,15 @@
 mod expressions;
 pub mod header;
 pub mod lines;
+pub mod refusals;
 mod sections;
 mod words;
 
 ghost use mathlib.Core.Path.{_≡_};
-ghost use Rattle.rules.specs.Descriptions.{read};
 ghost use Rattle.rules.specs.Calls.{reading};
 ghost use Rattle.answers.specs.Answers.{numbered};
 ghost use Rattle.sheet.specs.Found.{descriptionFound};
-use crate::header::Header;
 use crate::header::HeaderFound;
-use crate::lines::Refusal;
 use crate::sections::SectionFound;
 use answers::Answer;
 

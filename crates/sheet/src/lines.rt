@@ -3,19 +3,11 @@ ghost use mathlib.Core.Path.{_≡_};
 ghost use Rattle.rules.specs.Descriptions.{boardsOnly, relationLine, kindLine};
 ghost use Rattle.sheet.specs.Found.{relationFound, kindFound};
 use crate::expressions::Expression;
+use crate::refusals::NO_BOARD;
+use crate::refusals::NO_EXPRESSION;
+use crate::refusals::Refusal;
+use crate::refusals::UNFIT;
 use crate::words::wide;
-
-// The refusals of a line: it does not fit its section, it names a board that the site has not, its expression is malformed.
-pub const UNFIT: u8 = 3;
-
-pub const NO_BOARD: u8 = 4;
-
-pub const NO_EXPRESSION: u8 = 5;
-
-// A refusal's number.
-pub struct Refusal {
-    pub number: u8,
-}
 
 // The relation of p to q is one of the allowed.
 pub struct RelationLine {
@@ -42,6 +34,9 @@ pub enum KindFound {
     Refused(Refusal),
 }
 
+// The words of a line before its expression or its ways.
+const HEAD: usize = 3;
+
 const MOST_WORDS: usize = 15;
 
 const MOST_WAYS: usize = 8;
@@ -50,11 +45,11 @@ const MOST_WAYS: usize = 8;
 pub fn relation_line(v: usize, words: &[u16]) -> RelationFound
     ensures { λ r. ⌜ r ≡ relationFound (relationLine v (now (words .entry))) ⌝ }
 {
-    if words.len() < 3 {
+    if words.len() < HEAD {
         return RelationFound::Refused(Refusal { number: UNFIT });
     }
     let n = wide(words[2]);
-    if n < 1 || MOST_WORDS < n || words.len() - 3 < n {
+    if n < 1 || MOST_WORDS < n || words.len() - HEAD < n {
         return RelationFound::Refused(Refusal { number: UNFIT });
     }
     let p = wide(words[0]);
@@ -62,8 +57,8 @@ pub fn relation_line(v: usize, words: &[u16]) -> RelationFound
     if v <= p || v <= q {
         return RelationFound::Refused(Refusal { number: NO_BOARD });
     }
-    let end = 3 + n;
-    let Expression::Set(x, left) = crate::expressions::evaluate(&words[3..end]) else {
+    let end = HEAD + n;
+    let Expression::Set(x, left) = crate::expressions::evaluate(&words[HEAD..end]) else {
         return RelationFound::Refused(Refusal {
             number: NO_EXPRESSION,
         });
@@ -73,14 +68,7 @@ pub fn relation_line(v: usize, words: &[u16]) -> RelationFound
             number: NO_EXPRESSION,
         });
     }
-    RelationFound::Line(
-        RelationLine {
-            p: p,
-            q: q,
-            allowed: x,
-        },
-        words.len() - end,
-    )
+    RelationFound::Line(RelationLine { p, q, allowed: x }, words.len() - end)
 }
 
 // Each of these words is a board below v.
@@ -101,21 +89,21 @@ fn boards_only(v: usize, ways: &[u16]) -> bool
 pub fn kind_line(v: usize, words: &[u16]) -> KindFound
     ensures { λ r. ⌜ r ≡ kindFound (kindLine v (now (words .entry))) ⌝ }
 {
-    if words.len() < 3 {
+    if words.len() < HEAD {
         return KindFound::Refused(Refusal { number: UNFIT });
     }
     let n = wide(words[2]);
-    if MOST_WAYS < n || words.len() - 3 < n {
+    if MOST_WAYS < n || words.len() - HEAD < n {
         return KindFound::Refused(Refusal { number: UNFIT });
     }
     let p = wide(words[0]);
-    let end = 3 + n;
-    if v <= p || !boards_only(v, &words[3..end]) {
+    let end = HEAD + n;
+    if v <= p || !boards_only(v, &words[HEAD..end]) {
         return KindFound::Refused(Refusal { number: NO_BOARD });
     }
     KindFound::Line(
         KindLine {
-            p: p,
+            p,
             code: words[1],
             ways: n,
         },

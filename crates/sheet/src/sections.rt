@@ -3,9 +3,9 @@ ghost use mathlib.Core.Path.{_≡_};
 ghost use Rattle.rules.specs.Descriptions.{relationLine, kindLine, section};
 ghost use Rattle.sheet.specs.Found.{sectionFound, endFound};
 use crate::lines::KindFound;
-use crate::lines::Refusal;
 use crate::lines::RelationFound;
-use crate::lines::UNFIT;
+use crate::refusals::Refusal;
+use crate::refusals::UNFIT;
 
 // A section that its lines fill, or the first refusal in it.
 pub enum SectionFound {

@@ -5,7 +5,7 @@ ghost use Rattle.rules.specs.Calls.{fresh};
 ghost use Rattle.answers.specs.Answers.{outcome};
 use answers::Answer;
 use sheet::header::MOST_BOARDS;
-use sheet::header::OUT_OF_RANGE;
+use sheet::refusals::OUT_OF_RANGE;
 
 // The refusal of a table: it has a wrong number of cells, or a cell that is no set.
 pub const NO_TABLE: u8 = 6;

@@ -5,7 +5,8 @@ use mathlib.Core.Path.{sym, _∙_}
 use native.Mathlib.Omega.{arith}
 use Rattle.rules.specs.Descriptions.{relationLine}
 use Rattle.sheet.proofs.Fronts.{relation-suffix, relation-line-out, relation-refused-out}
-use Rattle.sheet.proofs.Filled.{Walk, walk-start, walk-refused, walk-next, walk-ended}
+use Rattle.rules.proofs.Walks.{Walk, walk-start}
+use Rattle.sheet.proofs.Filled.{found-refused, found-next, found-end}
 use Rattle.sheet.proofs.sections.relation_lines.Statement.{statement}
 use Rattle.sheet.proofs.sections.relation_lines.Tie as tie
 
@@ -46,7 +47,7 @@ returns c =
     let start = c .before .before .before .before .before .before .before .before in
     let walk = c .before .before .before .before .before .before in
     let found = c .before .before .before in
-    walk-refused (relationLine (start .args .v)) (start .args .count) (start .args .words .now) _ (walk .loop .inv) (c .before .before .before .before .before .loop-test .taken)
+    found-refused (relationLine (start .args .v)) (start .args .count) (start .args .words .now) (walk .loop .inv) _ (c .before .before .before .before .before .loop-test .taken)
     (relation-refused-out _ _ (sym (c .before .r .given .1) ∙ found .relation-line .ensures))
 
 sub-at : tie.Need-sub-at Inv-loop μ-loop
@@ -54,7 +55,7 @@ sub-at c =
     let start = c .before .before .before .before .before .before .before .before in
     let walk = c .before .before .before .before .before .before in
     let found = c .before .before .before in
-    walk-next (relationLine (start .args .v)) (start .args .count) (start .args .words .now) _ (relation-suffix (start .args .v)) (walk .loop .inv) (c .before .before .before .before .before .loop-test .taken)
+    found-next (relationLine (start .args .v)) (start .args .count) (start .args .words .now) (walk .loop .inv) _ (relation-suffix (start .args .v)) (c .before .before .before .before .before .loop-test .taken)
     (relation-line-out _ _ _ (sym (c .before .rest .given .1) ∙ found .relation-line .ensures)) .0
 
 sub-left : tie.Need-sub-left Inv-loop μ-loop
@@ -68,7 +69,7 @@ loop-again c =
     let start = c .before .before .before .before .before .before .before .before in
     let walk = c .before .before .before .before .before .before in
     let found = c .before .before .before in
-    walk-next (relationLine (start .args .v)) (start .args .count) (start .args .words .now) _ (relation-suffix (start .args .v)) (walk .loop .inv) (c .before .before .before .before .before .loop-test .taken)
+    found-next (relationLine (start .args .v)) (start .args .count) (start .args .words .now) (walk .loop .inv) _ (relation-suffix (start .args .v)) (c .before .before .before .before .before .loop-test .taken)
     (relation-line-out _ _ _ (sym (c .before .rest .given .1) ∙ found .relation-line .ensures)) .1
 
 sub-ended : tie.Need-sub-ended Inv-loop μ-loop
@@ -80,7 +81,7 @@ ended-requires c κs = search needs
 returns-2 : tie.Need-returns-2 Inv-loop μ-loop
 returns-2 c =
     let start = c .before .before .before .before in
-    c .ended .ensures ∙ walk-ended (relationLine (start .args .v)) (start .args .count) (start .args .words .now) (c .before .before .loop .inv) (c .before .loop-test .left)
+    c .ended .ensures ∙ found-end (relationLine (start .args .v)) (start .args .count) (start .args .words .now) (c .before .before .loop .inv) (c .before .loop-test .left)
 
 pub relation-lines-spec : {M : Type 1} → statement M
 relation-lines-spec =

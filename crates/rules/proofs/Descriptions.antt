@@ -9,13 +9,13 @@ use lib.Dec.{T, leb, ltb, leb→le, ltb→lt}
 use lib.ListN.{length, getD, take, drop, length-take}
 use Rattle.rules.specs.Expressions.{Value, value, malformed, expression}
 use Rattle.rules.specs.Descriptions.{mostBoards, mostLines, mostKinds, mostWords, mostWays, RelationLine, KindLine, Sheet, WellFormed, Reading, good, refused, Front, need, next, meaning, relationLine, boardsOnly, kindLine, section, numbersFit, offsetsFit, relationLines, kindLines, read}
-use Rattle.rules.proofs.Tests.{T-and-left, T-and-right}
+use Rattle.rules.proofs.Tests.{clash, T-and-left, T-and-right}
 use Rattle.rules.proofs.Members.{All, each-of-out, member-at}
 
 -- ---- what a reading passed
 
 pub never : {X Y : Type 0} (n : ℕ) (x : X) → refused n ≡ good x → Y
-never n x p = let z : _≡_ {A = ℕ} 0 1 = cc in let y : ⊥ = omega arith in absurd y
+never n x p = clash (cc)
 
 pub need-test : {X : Type 0} (n : ℕ) (b : Bool) (r : Reading X) (x : X) → need n b r ≡ good x → T b
 need-test n true r x p = tt

@@ -11,6 +11,7 @@ use Rattle.rules.specs.Relations.{relations, sets, E, A, B, S, join, mee
 use Rattle.rules.specs.Expressions.{Code, relation, two, one, unknown, codes, code, Value, value, malformed, andThen, follow, evaluate, expression, Tree, same, above, below, side, or, and, not, inv, written, denoted}
 use Rattle.rules.proofs.Sets.{setOf-small}
 use Rattle.rules.proofs.Parts.{Suffix, drop-suffix}
+use Rattle.rules.proofs.Tests.{clash}
 
 -- ---- words that write an expression mean what it stands for
 
@@ -84,7 +85,7 @@ record Single (n : ℕ) (f : ℕ → ℕ) (ws : List ℕ) (x : ℕ) (rest : List
   whole : f y ≡ x
 
 never : {X : Type 0} (x : ℕ) (rest : List ℕ) → malformed ≡ value x rest → X
-never x rest p = let z : _≡_ {A = ℕ} 0 1 = cc in let y : ⊥ = omega arith in absurd y
+never x rest p = clash (cc)
 
 both-out : (n : ℕ) (f : ℕ → ℕ → ℕ) (ws : List ℕ) (x : ℕ) (rest : List ℕ) → follow (λ left. evaluate n left) (two f) ws ≡ value x rest
     → Both n f ws x rest

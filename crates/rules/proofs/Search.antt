@@ -11,7 +11,7 @@ use Rattle.rules.specs.Relations.{relations}
 use Rattle.rules.specs.Descriptions.{Sheet, WellFormed}
 use Rattle.rules.specs.Tables.{Table}
 use Rattle.rules.specs.Search.{plainOrder, Order, End, found, none, places, search, Before, Least, Nowhere, ended, ranOut, tries, cap}
-use Rattle.rules.proofs.Tests.{true-T}
+use Rattle.rules.proofs.Tests.{clash, true-T}
 use Rattle.rules.proofs.Choices.{Closes, Right, search-right}
 use Rattle.rules.proofs.Order.{agree-equal, before-irrefl, before-trans}
 
@@ -95,7 +95,7 @@ pub cap-out : (b : ℕ) (e : End) → b < tries e → cap b e ≡ ranOut b
 cap-out b e h = ⊎-elim (λ d. let l : tries e ≤ b = d .0 in let z : ⊥ = omega arith in absurd z) (λ d. d .1) (cap-case b e)
 
 pub out-cap : (b c : ℕ) (e : End) → cap b e ≡ ranOut c → (b < tries e) × (c ≡ b)
-out-cap b c e p = ⊎-elim (λ d. let q : cap b e ≡ ended e = d .1 in let z : _≡_ {A = ℕ} 0 1 = cc in let y : ⊥ = omega arith in absurd y) (λ d. let q : cap b e ≡ ranOut b = d .1 in (d .0, cc)) (cap-case b e)
+out-cap b c e p = ⊎-elim (λ d. let q : cap b e ≡ ended e = d .1 in clash (cc)) (λ d. let q : cap b e ≡ ranOut b = d .1 in (d .0, cc)) (cap-case b e)
 
 -- a larger budget changes no answer but "ran out"
 pub cap-more : (b c : ℕ) (e g : End) → b ≤ c → cap b e ≡ ended g → cap c e ≡ ended g
@@ -103,4 +103,4 @@ cap-more b c e g h p =
     ⊎-elim
     (λ d. let l : tries e ≤ b = d .0 in let q : cap b e ≡ ended e = d .1 in
     ⊎-elim (λ k. let r : cap c e ≡ ended e = k .1 in cc) (λ k. let m : c < tries e = k .0 in let z : ⊥ = omega arith in absurd z) (cap-case c e))
-    (λ d. let q : cap b e ≡ ranOut b = d .1 in let z : _≡_ {A = ℕ} 0 1 = cc in let y : ⊥ = omega arith in absurd y) (cap-case b e)
+    (λ d. let q : cap b e ≡ ranOut b = d .1 in clash (cc)) (cap-case b e)

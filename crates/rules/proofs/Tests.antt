@@ -9,6 +9,10 @@ use borrow.Author.Tests.{ltb-true, ltb-false, leb-true, leb-false, eqb-true, eqb
 use lib.Dec.{T, eqb, eqb→eq, eqb-refl, T-not, not-T, ltb, ltb→lt, nltb→le}
 use Rattle.rules.specs.Relations.{someBelow, eachBelow, countBelow}
 
+-- what two constructors of one type being equal comes to
+pub clash : {X : Type 0} → _≡_ {A = ℕ} 0 1 → X
+clash e = let z : ⊥ = omega arith in absurd z
+
 -- ---- tests
 
 -- a test that two numbers differ, passed or not

@@ -8,6 +8,7 @@ use lib.ListN.{length, drop, length-drop}
 use lib.Seq.{drop-drop}
 use Rattle.rules.specs.Descriptions.{Reading, good, refused, Front, next, section}
 use Rattle.rules.proofs.Parts.{Suffix}
+use Rattle.rules.proofs.Tests.{clash}
 
 module _ {X : Type 0} where
   -- the lines passed, and then those that are read
@@ -90,4 +91,4 @@ module _ {X : Type 0} where
           go : (r : Reading (List X)) → section line left (drop at ws) ≡ r → good ls ≡ past (w .done) r
               → (rest : List X) × (section line left (drop at ws) ≡ good rest) × (ls ≡ w .done ++ rest)
           go (good rest) e q = (rest, e, cc)
-          go (refused n) e q = let z : _≡_ {A = ℕ} 0 1 = cc in let y : ⊥ = omega arith in absurd y
+          go (refused n) e q = clash (cc)

@@ -13,6 +13,7 @@ use Rattle.rules.proofs.Expressions.{Ends, expression-ends, expression-step}
 use Rattle.sheet.specs.declared.expressions.Expression.{Expression}
 use Rattle.sheet.specs.declared.expressions.Expression.the-variants.{Set, Malformed}
 use Rattle.sheet.specs.Found.{expressionFound}
+use Rattle.rules.proofs.Tests.{clash}
 
 -- what is found at the front of some words
 abbrev pub Finds : List ℕ → Expression → Type 0
@@ -30,7 +31,7 @@ pub operand : (ws : List ℕ) (x n : ℕ) → Finds ws (Set x n) → Operand ws 
 operand ws x n p = go (expression ws) refl p
   where
     go : (v : Value) → expression ws ≡ v → Set x n ≡ expressionFound v → Operand ws x n
-    go malformed e q = let z : _≡_ {A = ℕ} 0 1 = cc in let y : ⊥ = omega arith in absurd y
+    go malformed e q = clash (cc)
     go (value y rest) e q =
         let f : y ≡ x = cc in
         let l : length rest ≡ n = cc in
@@ -48,7 +49,7 @@ no-operand ws p = go (expression ws) p
   where
     go : (v : Value) → Malformed ≡ expressionFound v → v ≡ malformed
     go malformed q = refl
-    go (value y rest) q = let z : _≡_ {A = ℕ} 0 1 = cc in let y : ⊥ = omega arith in absurd y
+    go (value y rest) q = clash (cc)
 
 -- ---- what each code stands for
 

@@ -3,13 +3,12 @@ use mathlib.Core.Path.{_≡_, refl, sym, ap, _∙_, subst}
 use mathlib.Core.Bool.{Bool, true, false, _&&_}
 use mathlib.Core.List.{List}
 use Prim.Native.Nat.{ℕ, _-_, _≤_}
-use native.Mathlib.Omega.{arith}
 use lib.Dec.{T, leb, eqb, leb→le, le→leb, eqb→eq}
 use lib.ListN.{length, getD, take, drop}
 use borrow.Author.Tests.{eq-eqb}
 use Rattle.rules.specs.Descriptions.{mostBoards, mostLines, mostKinds, RelationLine, KindLine, Sheet, Reading, good, refused, need, next, relationLine, kindLine, section, numbersFit, offsetsFit, relationLines, kindLines, read}
 use Rattle.rules.specs.Calls.{reading}
-use Rattle.rules.proofs.Tests.{true-T, and-T, T-and-left, T-and-right}
+use Rattle.rules.proofs.Tests.{clash, true-T, and-T, T-and-left, T-and-right}
 use Rattle.rules.proofs.Parts.{tail}
 use Rattle.rules.proofs.Descriptions.{need-passed, need-failed}
 use Rattle.sheet.specs.declared.refusals.Refusal.{Refusal}
@@ -121,7 +120,7 @@ module _ (ws : List ℕ) where
   description-unheaded q p = go (numbersFit ws) (offsetsFit ws) p
     where
       go : (a b : Bool) → Refused q ≡ numbersFound ws (need 1 a (need 2 b (good ws))) → Refused q ≡ numbersFound ws (need 1 a (need 2 b (lines-read ws)))
-      go true true e = let z : _≡_ {A = ℕ} 0 1 = cc in let y : ⊥ = omega arith in absurd y
+      go true true e = clash (cc)
       go true false e = e
       go false b e = e
 
@@ -137,8 +136,8 @@ module _ (ws : List ℕ) where
     where
       go : (a b : Bool) → numbersFit ws ≡ a → offsetsFit ws ≡ b → Good h ≡ numbersFound ws (need 1 a (need 2 b (good ws))) → Headed h
       go true true d e q = record { is = cc; placed = places-out ws (true-T e); rest = rw (d, e) }
-      go true false d e q = let z : _≡_ {A = ℕ} 0 1 = cc in let y : ⊥ = omega arith in absurd y
-      go false b d e q = let z : _≡_ {A = ℕ} 0 1 = cc in let y : ⊥ = omega arith in absurd y
+      go true false d e q = clash (cc)
+      go false b d e q = clash (cc)
 
   module _ {h : Header} (good-header : Headed h) where
     -- the kind lines begin after the header and within the words
@@ -170,7 +169,7 @@ module _ (ws : List ℕ) where
       where
         go : (r : Reading (List RelationLine)) → sections.Refused q ≡ sectionFound r
             → Refused q ≡ numbersFound {X = Sheet} ws (next r (λ ls. next (kindLines ws) (λ ks. good (record { boards = getD ws 0 0; lines = ls; kinds = ks }))))
-        go (good ls) e = let z : _≡_ {A = ℕ} 0 1 = cc in let y : ⊥ = omega arith in absurd y
+        go (good ls) e = clash (cc)
         go (refused n) e = cc
 
     module _ (filled : sections.Filled ≡ sectionFound (relationLines ws)) where
@@ -179,14 +178,14 @@ module _ (ws : List ℕ) where
         where
           go : (r : Reading (List RelationLine)) → sections.Filled ≡ sectionFound r → (ls : List RelationLine) × (r ≡ good ls)
           go (good ls) e = (ls, refl)
-          go (refused n) e = let z : _≡_ {A = ℕ} 0 1 = cc in let y : ⊥ = omega arith in absurd y
+          go (refused n) e = clash (cc)
 
       pub description-no-kinds : (q : Refusal) → sections.Refused q ≡ sectionFound (kindLines ws) → Refused q ≡ descriptionFound ws
       description-no-kinds q p = rw (good-header .rest, after-lines .1) (go (kindLines ws) p)
         where
           go : (r : Reading (List KindLine)) → sections.Refused q ≡ sectionFound r
               → Refused q ≡ numbersFound {X = Sheet} ws (next r (λ ks. good (record { boards = getD ws 0 0; lines = after-lines .0; kinds = ks })))
-          go (good ls) e = let z : _≡_ {A = ℕ} 0 1 = cc in let y : ⊥ = omega arith in absurd y
+          go (good ls) e = clash (cc)
           go (refused n) e = cc
 
       pub description-read : sections.Filled ≡ sectionFound (kindLines ws) → Good h ≡ descriptionFound ws
@@ -195,7 +194,7 @@ module _ (ws : List ℕ) where
           go : (r : Reading (List KindLine)) → sections.Filled ≡ sectionFound r
               → Good h ≡ numbersFound {X = Sheet} ws (next r (λ ks. good (record { boards = getD ws 0 0; lines = after-lines .0; kinds = ks })))
           go (good ls) e = ap Good (good-header .is)
-          go (refused n) e = let z : _≡_ {A = ℕ} 0 1 = cc in let y : ⊥ = omega arith in absurd y
+          go (refused n) e = clash (cc)
 
   -- what was found, as a number
   pub reading-good : (h : Header) → Good h ≡ descriptionFound ws → 0 ≡ reading ws
@@ -204,12 +203,12 @@ module _ (ws : List ℕ) where
     where
       go : (r : Reading Sheet) → Good h ≡ numbersFound ws r → _≡_ {A = ℕ} 0 (elim r [ good s ↦ 0 | refused n ↦ n ])
       go (good s) e = refl
-      go (refused n) e = let z : _≡_ {A = ℕ} 0 1 = cc in let y : ⊥ = omega arith in absurd y
+      go (refused n) e = clash (cc)
 
   pub reading-refused : (q : Refusal) → Refused q ≡ descriptionFound ws → q .number ≡ reading ws
   unfolding reading
   reading-refused q p = go (read ws) p
     where
       go : (r : Reading Sheet) → Refused q ≡ numbersFound ws r → _≡_ {A = ℕ} (q .number) (elim r [ good s ↦ 0 | refused n ↦ n ])
-      go (good s) e = let z : _≡_ {A = ℕ} 0 1 = cc in let y : ⊥ = omega arith in absurd y
+      go (good s) e = clash (cc)
       go (refused n) e = let f : q ≡ refusal n = cc in ap (λ (r : Refusal). r .number) f

@@ -3,7 +3,7 @@ use borrow.Author.Needs.{needs}
 use mathlib.Core.Logic.{⊎-elim}
 use lib.ListN.{getD}
 use Rattle.rules.proofs.Tests.{tested}
-use Rattle.sheet.proofs.Fronts.{ways-denied, ways-granted, kind-short, kind-misfits, kind-no-boards, kind-read}
+use Rattle.sheet.proofs.KindFronts.{ways-denied, ways-granted, kind-short, kind-misfits, kind-no-boards, kind-read}
 use Rattle.sheet.proofs.lines.kind_line.Statement.{statement}
 use Rattle.sheet.proofs.lines.kind_line.Tie as tie
 

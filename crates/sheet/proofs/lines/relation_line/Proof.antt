@@ -3,7 +3,8 @@ use borrow.Author.Needs.{needs}
 use mathlib.Core.Path.{sym, _∙_}
 use mathlib.Core.Logic.{⊎-elim}
 use Rattle.rules.proofs.Tests.{tested}
-use Rattle.sheet.proofs.Fronts.{OnBoards, part-length, relation-short, relation-misfits, relation-no-boards, relation-malformed, relation-left-over, relation-read}
+use Rattle.sheet.proofs.Fronts.{part-length}
+use Rattle.sheet.proofs.RelationFronts.{OnBoards, relation-short, relation-misfits, relation-no-boards, relation-malformed, relation-left-over, relation-read}
 use Rattle.sheet.proofs.lines.relation_line.Statement.{statement}
 use Rattle.sheet.proofs.lines.relation_line.Tie as tie
 

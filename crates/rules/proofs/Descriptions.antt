@@ -1,42 +1,20 @@
 -- What is read is well-formed, and reading refuses with 1 to 5 only. Assumes nothing.
-use mathlib.Core.Path.{_≡_, refl, sym, ap, _∙_, subst}
+use mathlib.Core.Path.{_≡_, sym, ap, _∙_, subst}
 use mathlib.Core.Bool.{Bool, true, false, _&&_}
 use mathlib.Core.Logic.{⊎-elim}
 use mathlib.Core.List.{List, [], _∷_, List·Memᴰ, List·Memᴰ·not-nil, List·Memᴰ·cases-cons}
 use Prim.Native.Nat.{ℕ, zero, suc, _≤_, _<_}
 use native.Mathlib.Omega.{arith}
-use lib.Dec.{T, leb, ltb, leb→le, ltb→lt}
-use lib.ListN.{length, getD, take, drop, length-take}
+use lib.Dec.{T, leb, ltb}
+use lib.ListN.{length, getD, take, drop}
 use Rattle.rules.specs.Expressions.{Value, value, malformed, expression}
-use Rattle.rules.specs.Descriptions.{mostBoards, mostLines, mostKinds, mostWords, mostWays, RelationLine, KindLine, Sheet, WellFormed, Reading, good, refused, Front, need, next, meaning, relationLine, boardsOnly, kindLine, section, numbersFit, offsetsFit, relationLines, kindLines, read}
-use Rattle.rules.proofs.Tests.{clash, T-and-left, T-and-right}
-use Rattle.rules.proofs.Members.{All, each-of-out, member-at}
+use Rattle.rules.specs.Descriptions.{mostWords, mostWays, RelationLine, KindLine, Sheet, WellFormed, Reading, good, refused, Front, need, next, meaning, relationLine, boardsOnly, kindLine, section, numbersFit, offsetsFit, relationLines, kindLines, read}
+use Rattle.rules.proofs.Members.{All}
+use Rattle.rules.proofs.Readings.{never, need-test, need-rest, next-out}
+use Rattle.rules.proofs.Lines.{relation-out, kind-out, ways-length, boardsOnly-out}
+use Rattle.rules.proofs.Headers.{InRange, numbers-out}
 
--- ---- what a reading passed
-
-pub never : {X Y : Type 0} (n : ℕ) (x : X) → refused n ≡ good x → Y
-never n x p = clash (cc)
-
-pub need-test : {X : Type 0} (n : ℕ) (b : Bool) (r : Reading X) (x : X) → need n b r ≡ good x → T b
-need-test n true r x p = tt
-need-test n false r x p = never n x p
-
-pub need-rest : {X : Type 0} (n : ℕ) (b : Bool) (r : Reading X) (x : X) → need n b r ≡ good x → r ≡ good x
-need-rest n true r x p = p
-need-rest n false r x p = never n x p
-
--- a reading by a test that it passes or fails
-pub need-passed : {X : Type 0} (n : ℕ) (b : Bool) (r : Reading X) → T b → need n b r ≡ r
-need-passed n true r t = refl
-need-passed n false r t = absurd t
-
-pub need-failed : {X : Type 0} (n : ℕ) (b : Bool) (r : Reading X) → (T b → ⊥) → need n b r ≡ refused n
-need-failed n true r f = absurd (f tt)
-need-failed n false r f = refl
-
-pub next-out : {X Y : Type 0} (r : Reading Y) (f : Y → Reading X) (x : X) → next r f ≡ good x → (y : Y) × (r ≡ good y) × (f y ≡ good x)
-next-out (good y) f x p = (y, refl, p)
-next-out (refused n) f x p = never n x p
+-- ---- what is read
 
 module _ {X : Type 0} where
   -- a section that is read has as many lines as it should, each of them read
@@ -63,69 +41,29 @@ module _ {X : Type 0} where
                     (List·Memᴰ·cases-cons (subst (λ (l : List X). List·Memᴰ x l) (sym e) i)),
               )
 
--- the boards of a relation line
-relationLine-out : (v : ℕ) (ws : List ℕ) (l : Front RelationLine) → relationLine v ws ≡ good l → (l .line .p < v) × (l .line .q < v)
-unfolding relationLine
-relationLine-out v [] l e = never 3 l e
-relationLine-out v (p ∷ []) l e = never 3 l e
-relationLine-out v (p ∷ q ∷ []) l e = never 3 l e
-relationLine-out v (p ∷ q ∷ n ∷ ws) l e =
-    from (next-out (meaning (expression (take n ws))) made l (need-rest 4 (ltb p v && ltb q v) _ l second))
-  where
-    made : ℕ → Reading (Front RelationLine)
-    made x = good (record { line = record { p = p; q = q; allowed = x }; rest = drop n ws })
+-- the boards of a relation line, and of a kind line
+abbrev Relation : ℕ → RelationLine → Type 0
+Relation v l = (l .p < v) × (l .q < v)
 
-    second : need 4 (ltb p v && ltb q v) (next (meaning (expression (take n ws))) made) ≡ good l
-    second = need-rest 3 (leb 1 n && leb n mostWords && leb n (length ws)) (need 4 (ltb p v && ltb q v) (next (meaning (expression (take n ws))) made)) l e
+relationLine-out : (v : ℕ) (ws : List ℕ) (f : Front RelationLine) → relationLine v ws ≡ good f → Relation v (f .line)
+relationLine-out v ws f e =
+    let r = relation-out v ws f e in subst (λ (g : Front RelationLine). Relation v (g .line)) (r .front) (r .passed .p-board, r .passed .q-board)
 
-    boards : T (ltb p v && ltb q v)
-    boards = need-test 4 (ltb p v && ltb q v) (next (meaning (expression (take n ws))) made) l second
-
-    from : (x : ℕ) × (meaning (expression (take n ws)) ≡ good x) × (made x ≡ good l) → (l .line .p < v) × (l .line .q < v)
-    from m =
-        let g : made (m .0) ≡ good l = m .2 in
-        let d : record { line = record { p = p; q = q; allowed = m .0 }; rest = drop n ws } ≡ l = cc in (
-          subst (λ (k : Front RelationLine). k .line .p < v) d (ltb→lt p v (T-and-left (ltb p v) (ltb q v) boards)),
-          subst (λ (k : Front RelationLine). k .line .q < v) d (ltb→lt q v (T-and-right (ltb p v) (ltb q v) boards)),
-        )
-
-boardsOnly-out : (v : ℕ) (ys : List ℕ) → T (boardsOnly v ys) → (i : ℕ) → i < length ys → getD ys i 0 < v
-boardsOnly-out v ys t i h = ltb→lt (getD ys i 0) v (each-of-out (λ y. ltb y v) ys t (getD ys i 0) (member-at ys i h))
-
--- the boards of a kind line
 abbrev Kind : ℕ → KindLine → Type 0
 Kind v k = (k .p < v) × (length (k .ways) ≤ mostWays) × ((i : ℕ) → i < length (k .ways) → getD (k .ways) i 0 < v)
 
-kindLine-out : (v : ℕ) (ws : List ℕ) (l : Front KindLine) → kindLine v ws ≡ good l → Kind v (l .line)
-unfolding kindLine
-kindLine-out v [] l e = never 3 l e
-kindLine-out v (p ∷ []) l e = never 3 l e
-kindLine-out v (p ∷ c ∷ []) l e = never 3 l e
-kindLine-out v (p ∷ c ∷ n ∷ ws) l e =
-    subst (λ (k : Front KindLine). Kind v (k .line)) line (
-      ltb→lt p v (T-and-left (ltb p v) (boardsOnly v (take n ws)) boards),
-      omega (arith, length-take n ws, leb→le n mostWays (T-and-left (leb n mostWays) (leb n (length ws)) fits)),
-      boardsOnly-out v (take n ws) (T-and-right (ltb p v) (boardsOnly v (take n ws)) boards),
+kindLine-out : (v : ℕ) (ws : List ℕ) (f : Front KindLine) → kindLine v ws ≡ good f → Kind v (f .line)
+kindLine-out v ws f e =
+    let r = kind-out v ws f e in
+    subst (λ (g : Front KindLine). Kind v (g .line)) (r .front) (
+      r .passed .p-board,
+      omega (arith, ways-length v ws (r .passed .fits), r .passed .fits .high),
+      boardsOnly-out v (take (getD ws 2 0) (drop 3 ws)) (r .passed .way-boards),
     )
-  where
-    made : Front KindLine
-    made = record { line = record { p = p; code = c; ways = take n ws }; rest = drop n ws }
-
-    fits : T (leb n mostWays && leb n (length ws))
-    fits = need-test 3 (leb n mostWays && leb n (length ws)) (need 4 (ltb p v && boardsOnly v (take n ws)) (good made)) l e
-
-    second : need 4 (ltb p v && boardsOnly v (take n ws)) (good made) ≡ good l
-    second = need-rest 3 (leb n mostWays && leb n (length ws)) (need 4 (ltb p v && boardsOnly v (take n ws)) (good made)) l e
-
-    boards : T (ltb p v && boardsOnly v (take n ws))
-    boards = need-test 4 (ltb p v && boardsOnly v (take n ws)) (good made) l second
-
-    line : made ≡ l
-    line = let g : good made ≡ good l = need-rest 4 (ltb p v && boardsOnly v (take n ws)) (good made) l second in cc
 
 -- what is read is well-formed
 pub read-wellFormed : (ws : List ℕ) (s : Sheet) → read ws ≡ good s → WellFormed s
-unfolding read relationLines kindLines numbersFit
+unfolding read relationLines kindLines
 read-wellFormed ws s e = lines (next-out (relationLines ws) ruled s third)
   where
     sheet : List RelationLine → List KindLine → Sheet
@@ -143,19 +81,10 @@ read-wellFormed ws s e = lines (next-out (relationLines ws) ruled s third)
     fit : T (numbersFit ws)
     fit = need-test 1 (numbersFit ws) (need 2 (offsetsFit ws) (next (relationLines ws) ruled)) s e
 
-    enough : Bool
-    enough = leb 6 (length ws)
+    numbers : InRange ws
+    numbers = numbers-out ws fit
 
-    some : Bool
-    some = leb 1 (getD ws 0 0) && leb (getD ws 0 0) mostBoards
-
-    range : T (leb 6 (length ws) && (leb 1 (getD ws 0 0) && leb (getD ws 0 0) mostBoards) && leb (getD ws 1 0) mostLines)
-    range = T-and-left (enough && some && leb (getD ws 1 0) mostLines) (leb (getD ws 2 0) mostKinds) fit
-
-    boards : T (leb 1 (getD ws 0 0) && leb (getD ws 0 0) mostBoards)
-    boards = T-and-right enough some (T-and-left (enough && some) (leb (getD ws 1 0) mostLines) range)
-
-    kinds : (ls : List RelationLine) → (length ls ≡ getD ws 1 0) × All (λ l. (l .p < getD ws 0 0) × (l .q < getD ws 0 0)) ls
+    kinds : (ls : List RelationLine) → (length ls ≡ getD ws 1 0) × All (Relation (getD ws 0 0)) ls
         → (ks : List KindLine) × (kindLines ws ≡ good ks) × (good (sheet ls ks) ≡ good s) → WellFormed s
     kinds ls a m =
         let b : (length (m .0) ≡ getD ws 2 0) × All (Kind (getD ws 0 0)) (m .0) =
@@ -166,18 +95,15 @@ read-wellFormed ws s e = lines (next-out (relationLines ws) ruled s third)
         let k : length (m .0) ≡ getD ws 2 0 = b .0 in
         subst WellFormed d
         (record {
-          boards = (
-            leb→le 1 (getD ws 0 0) (T-and-left (leb 1 (getD ws 0 0)) (leb (getD ws 0 0) mostBoards) boards),
-            leb→le (getD ws 0 0) mostBoards (T-and-right (leb 1 (getD ws 0 0)) (leb (getD ws 0 0) mostBoards) boards),
-          );
-          lines = (omega (arith, leb→le (getD ws 1 0) mostLines (T-and-right (enough && some) (leb (getD ws 1 0) mostLines) range)), a .1);
-          kinds = (omega (arith, leb→le (getD ws 2 0) mostKinds (T-and-right (enough && some && leb (getD ws 1 0) mostLines) (leb (getD ws 2 0) mostKinds) fit)), b .1);
+          boards = (numbers .some, numbers .boards);
+          lines = (omega (arith, numbers .lines), a .1);
+          kinds = (omega (arith, numbers .kinds), b .1);
         })
 
     lines : (ls : List RelationLine) × (relationLines ws ≡ good ls) × (ruled ls ≡ good s) → WellFormed s
     lines m =
         kinds (m .0)
-        (section-out (relationLine (getD ws 0 0)) (λ l. (l .p < getD ws 0 0) × (l .q < getD ws 0 0)) (relationLine-out (getD ws 0 0)) (getD ws 1 0) _ (m .0) (m .1))
+        (section-out (relationLine (getD ws 0 0)) (Relation (getD ws 0 0)) (relationLine-out (getD ws 0 0)) (getD ws 1 0) _ (m .0) (m .1))
         (next-out (kindLines ws) (λ ks. good (sheet (m .0) ks)) s (m .2))
 
 -- ---- the numbers of refusals

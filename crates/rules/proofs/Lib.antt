@@ -11,8 +11,11 @@ pub mod Arrangements
 pub mod Panels
 pub mod Stages
 pub mod Parts
-pub mod Walks
 pub mod Expressions
+pub mod Readings
+pub mod Headers
+pub mod Lines
+pub mod Walks
 pub mod Descriptions
 pub mod Narrowing
 pub mod Choices

@@ -1,16 +1,15 @@
 -- A whole description, by its header and its two sections. Assumes nothing.
 use mathlib.Core.Path.{_≡_, refl, sym, ap, _∙_, subst}
-use mathlib.Core.Bool.{Bool, true, false, _&&_}
+use mathlib.Core.Bool.{Bool, true, false}
 use mathlib.Core.List.{List}
 use Prim.Native.Nat.{ℕ, _-_, _≤_}
-use lib.Dec.{T, leb, eqb, leb→le, le→leb, eqb→eq}
 use lib.ListN.{length, getD, take, drop}
-use borrow.Author.Tests.{eq-eqb}
-use Rattle.rules.specs.Descriptions.{mostBoards, mostLines, mostKinds, RelationLine, KindLine, Sheet, Reading, good, refused, need, next, relationLine, kindLine, section, numbersFit, offsetsFit, relationLines, kindLines, read}
+use Rattle.rules.specs.Descriptions.{RelationLine, KindLine, Sheet, Reading, good, refused, need, next, relationLine, kindLine, section, numbersFit, offsetsFit, relationLines, kindLines, read}
 use Rattle.rules.specs.Calls.{reading}
-use Rattle.rules.proofs.Tests.{clash, true-T, and-T, T-and-left, T-and-right}
+use Rattle.rules.proofs.Tests.{clash, true-T}
 use Rattle.rules.proofs.Parts.{tail}
-use Rattle.rules.proofs.Descriptions.{need-passed, need-failed}
+use Rattle.rules.proofs.Readings.{need-passed, need-failed}
+use Rattle.rules.proofs.Headers.{InRange, Placed, numbers-in, numbers-out, places-in, places-out}
 use Rattle.sheet.specs.declared.refusals.Refusal.{Refusal}
 use Rattle.sheet.specs.declared.header.Header.{Header}
 use Rattle.sheet.specs.declared.header.HeaderFound.the-variants.{Good, Refused}
@@ -20,89 +19,16 @@ use Rattle.sheet.specs.Found.{refusal, sectionFound, numbers, numbersFou
 
 -- ---- the header
 
--- the numbers are in range
-pub record Numbered (ws : List ℕ) : Type 0 where
-  pub six : 6 ≤ length ws
-  pub some : 1 ≤ getD ws 0 0
-  pub boards : getD ws 0 0 ≤ mostBoards
-  pub lines : getD ws 1 0 ≤ mostLines
-  pub kinds : getD ws 2 0 ≤ mostKinds
-
--- the offsets and the total are right
-pub record Placed (ws : List ℕ) : Type 0 where
-  pub first : getD ws 3 0 ≡ 6
-  pub after : 6 ≤ getD ws 4 0
-  pub before : getD ws 4 0 ≤ getD ws 5 0
-  pub total : getD ws 5 0 ≡ length ws
-
-numbers-in : (ws : List ℕ) → Numbered ws → T (numbersFit ws)
-unfolding numbersFit
-numbers-in ws n =
-    let six : Bool = leb 6 (length ws) in
-    let boards : Bool = leb 1 (getD ws 0 0) && leb (getD ws 0 0) mostBoards in
-    let lines : Bool = leb (getD ws 1 0) mostLines in
-    let kinds : Bool = leb (getD ws 2 0) mostKinds in
-    and-T (six && boards && lines) kinds
-    (and-T (six && boards) lines
-    (and-T six boards (le→leb 6 (length ws) (n .six))
-    (and-T (leb 1 (getD ws 0 0)) (leb (getD ws 0 0) mostBoards) (le→leb 1 (getD ws 0 0) (n .some)) (le→leb (getD ws 0 0) mostBoards (n .boards))))
-    (le→leb (getD ws 1 0) mostLines (n .lines)))
-    (le→leb (getD ws 2 0) mostKinds (n .kinds))
-
-numbers-out : (ws : List ℕ) → T (numbersFit ws) → Numbered ws
-unfolding numbersFit
-numbers-out ws t =
-    let six : Bool = leb 6 (length ws) in
-    let boards : Bool = leb 1 (getD ws 0 0) && leb (getD ws 0 0) mostBoards in
-    let lines : Bool = leb (getD ws 1 0) mostLines in
-    let kinds : Bool = leb (getD ws 2 0) mostKinds in
-    let u : T (six && boards && lines) = T-and-left (six && boards && lines) kinds t in
-    let s : T (six && boards) = T-and-left (six && boards) lines u in
-    let b : T boards = T-and-right six boards s in
-    record {
-      six = leb→le 6 (length ws) (T-and-left six boards s);
-      some = leb→le 1 (getD ws 0 0) (T-and-left (leb 1 (getD ws 0 0)) (leb (getD ws 0 0) mostBoards) b);
-      boards = leb→le (getD ws 0 0) mostBoards (T-and-right (leb 1 (getD ws 0 0)) (leb (getD ws 0 0) mostBoards) b);
-      lines = leb→le (getD ws 1 0) mostLines (T-and-right (six && boards) lines u);
-      kinds = leb→le (getD ws 2 0) mostKinds (T-and-right (six && boards && lines) kinds t);
-    }
-
-places-in : (ws : List ℕ) → Placed ws → T (offsetsFit ws)
-unfolding offsetsFit
-places-in ws p =
-    let first : Bool = eqb (getD ws 3 0) 6 in
-    let middle : Bool = leb 6 (getD ws 4 0) && leb (getD ws 4 0) (getD ws 5 0) in
-    let total : Bool = eqb (getD ws 5 0) (length ws) in
-    and-T (first && middle) total
-    (and-T first middle (true-T (eq-eqb (getD ws 3 0) 6 (p .first)))
-    (and-T (leb 6 (getD ws 4 0)) (leb (getD ws 4 0) (getD ws 5 0)) (le→leb 6 (getD ws 4 0) (p .after)) (le→leb (getD ws 4 0) (getD ws 5 0) (p .before))))
-    (true-T (eq-eqb (getD ws 5 0) (length ws) (p .total)))
-
-places-out : (ws : List ℕ) → T (offsetsFit ws) → Placed ws
-unfolding offsetsFit
-places-out ws t =
-    let first : Bool = eqb (getD ws 3 0) 6 in
-    let middle : Bool = leb 6 (getD ws 4 0) && leb (getD ws 4 0) (getD ws 5 0) in
-    let total : Bool = eqb (getD ws 5 0) (length ws) in
-    let s : T (first && middle) = T-and-left (first && middle) total t in
-    let m : T middle = T-and-right first middle s in
-    record {
-      first = eqb→eq (getD ws 3 0) 6 (T-and-left first middle s);
-      after = leb→le 6 (getD ws 4 0) (T-and-left (leb 6 (getD ws 4 0)) (leb (getD ws 4 0) (getD ws 5 0)) m);
-      before = leb→le (getD ws 4 0) (getD ws 5 0) (T-and-right (leb 6 (getD ws 4 0)) (leb (getD ws 4 0) (getD ws 5 0)) m);
-      total = eqb→eq (getD ws 5 0) (length ws) (T-and-right (first && middle) total t);
-    }
-
-pub header-unnumbered : (ws : List ℕ) → (Numbered ws → ⊥) → Refused (refusal 1) ≡ headerFound ws
+pub header-unnumbered : (ws : List ℕ) → (InRange ws → ⊥) → Refused (refusal 1) ≡ headerFound ws
 header-unnumbered ws f =
     sym (ap (numbersFound ws) (need-failed 1 (numbersFit ws) (need 2 (offsetsFit ws) (good ws)) (λ t. f (numbers-out ws t))))
 
-pub header-misplaced : (ws : List ℕ) → Numbered ws → (Placed ws → ⊥) → Refused (refusal 2) ≡ headerFound ws
+pub header-misplaced : (ws : List ℕ) → InRange ws → (Placed ws → ⊥) → Refused (refusal 2) ≡ headerFound ws
 header-misplaced ws n f =
     sym (ap (numbersFound ws) (need-passed 1 (numbersFit ws) (need 2 (offsetsFit ws) (good ws)) (numbers-in ws n)
     ∙ need-failed 2 (offsetsFit ws) (good ws) (λ t. f (places-out ws t))))
 
-pub header-read : (ws : List ℕ) → Numbered ws → Placed ws → Good (numbers ws) ≡ headerFound ws
+pub header-read : (ws : List ℕ) → InRange ws → Placed ws → Good (numbers ws) ≡ headerFound ws
 header-read ws n p =
     sym (ap (numbersFound ws) (need-passed 1 (numbersFit ws) (need 2 (offsetsFit ws) (good ws)) (numbers-in ws n)
     ∙ need-passed 2 (offsetsFit ws) (good ws) (places-in ws p)))

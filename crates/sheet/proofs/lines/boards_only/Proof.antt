@@ -4,7 +4,7 @@ use Prim.Native.Nat.{ℕ, _-_, _≤_, _<_}
 use native.Mathlib.Omega.{arith}
 use borrow.Author.Count.{below-more}
 use lib.ListN.{length, getD}
-use Rattle.sheet.proofs.KindFronts.{some-no-board, all-boards}
+use Rattle.sheet.proofs.Fronts.{some-no-board, all-boards}
 use Rattle.sheet.proofs.lines.boards_only.Statement.{statement}
 use Rattle.sheet.proofs.lines.boards_only.Tie as tie
 

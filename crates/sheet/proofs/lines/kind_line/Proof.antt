@@ -1,16 +1,19 @@
 -- `lines::kind_line` meets its contract: each of its ends is one of the laws of a line's front. Assumes nothing.
 use borrow.Author.Needs.{needs}
+use mathlib.Core.Path.{sym, ap}
 use mathlib.Core.Logic.{⊎-elim}
 use lib.ListN.{getD}
 use Rattle.rules.proofs.Tests.{tested}
-use Rattle.sheet.proofs.KindFronts.{ways-denied, ways-granted, kind-short, kind-misfits, kind-no-boards, kind-read}
+use Rattle.rules.proofs.Lines.{kind-short, kind-misfits, kind-no-boards}
+use Rattle.sheet.specs.Found.{kindFound}
+use Rattle.sheet.proofs.Fronts.{ways-denied, ways-granted, kind-line-found}
 use Rattle.sheet.proofs.lines.kind_line.Statement.{statement}
 use Rattle.sheet.proofs.lines.kind_line.Tie as tie
 
 returns : tie.Need-returns
 returns c =
     let start = c .before .before in
-    kind-short (start .args .v) (start .args .words .now) (c .if1 .taken)
+    sym (ap kindFound (kind-short (start .args .v) (start .args .words .now) (c .if1 .taken)))
 
 shared-slice-read-wide : tie.Need-shared-slice-read-wide
 shared-slice-read-wide c = search needs
@@ -24,7 +27,8 @@ sub-if3 c = search needs
 returns-2 : tie.Need-returns-2
 returns-2 c =
     let start = c .before .before .before .before .before in
-    kind-misfits (start .args .v) (start .args .words .now) (omega tested) (λ high room. ⊎-elim (λ w. omega tested) (λ w. omega tested) (c .if2 .came))
+    sym (ap kindFound (kind-misfits (start .args .v) (start .args .words .now) (omega tested)
+    (λ high room. ⊎-elim (λ w. omega tested) (λ w. omega tested) (c .if2 .came))))
 
 shared-slice-read-wide-2 : tie.Need-shared-slice-read-wide-2
 shared-slice-read-wide-2 c = search needs
@@ -50,11 +54,12 @@ boards-only-requires c κs = search needs
 returns-3 : tie.Need-returns-3
 returns-3 c =
     let start = c .before .before .before .before .before .before .before .before .before in
-    let width = c .before .before .before .before .before in
-    kind-no-boards (start .args .v) (start .args .words .now) (omega tested) (omega tested) (omega tested)
+    let width = c .before .before .before .before .before .wide in
+    let n = getD (start .args .words .now) 2 0 in
+    sym (ap kindFound (kind-no-boards (start .args .v) (start .args .words .now) (record { three = omega tested; high = omega tested; room = omega tested })
     (λ board ways. ⊎-elim (λ w. omega tested)
-    (λ w. ways-denied (start .args .v) (width .wide .result) (getD (start .args .words .now) 2 0) (start .args .words .now) (w .2 .result) (width .wide .ensures) (w .2 .ensures) (w .3 .taken) ways)
-    (c .if4 .came))
+    (λ w. ways-denied (start .args .v) (width .result) n (start .args .words .now) (w .2 .result) (width .ensures) (w .2 .ensures) (w .3 .taken) ways)
+    (c .if4 .came))))
 
 shared-slice-read-t10 : tie.Need-shared-slice-read-t10
 shared-slice-read-t10 c = search needs
@@ -65,13 +70,13 @@ sub-t27 c = omega tested
 returns-4 : tie.Need-returns-4
 returns-4 c =
     let start = c .before .before .before .before .before .before .before .before .before .before .before .before .before in
-    let tests = c .before .before in
-    let first = c .before .before .before .before .before in
-    let width = c .before .before .before .before .before .before .before .before .before in
-    rw (width .wide .ensures, first .wide2 .ensures)
-    (kind-read (start .args .v) (start .args .words .now) (omega tested) (omega tested) (omega tested) (omega tested)
-    (ways-granted (start .args .v) (width .wide .result) (getD (start .args .words .now) 2 0) (start .args .words .now) (tests .boards-only .result) (width .wide .ensures) (tests .boards-only .ensures)
-    (c .before .if5 .left)))
+    let tests = c .before .before .boards-only in
+    let first = c .before .before .before .before .before .wide2 in
+    let width = c .before .before .before .before .before .before .before .before .before .wide in
+    let n = getD (start .args .words .now) 2 0 in
+    let ways = ways-granted (start .args .v) (width .result) n (start .args .words .now) (tests .result) (width .ensures) (tests .ensures) (c .before .if5 .left) in
+    rw (width .ensures, first .ensures)
+    (kind-line-found (start .args .v) (start .args .words .now) (record { fits = record { three = omega tested; high = omega tested; room = omega tested }; p-board = omega tested; way-boards = ways }))
 
 pub kind-line-spec : {M : Type 1} → statement M
 kind-line-spec =

@@ -1,15 +1,18 @@
 -- `lines::relation_line` meets its contract: each of its ends is one of the laws of a line's front. Assumes nothing.
 use borrow.Author.Needs.{needs}
-use mathlib.Core.Path.{sym, _∙_}
+use mathlib.Core.Path.{sym, ap, _∙_}
 use mathlib.Core.Logic.{⊎-elim}
 use Rattle.rules.proofs.Tests.{tested}
-use Rattle.sheet.proofs.Fronts.{part-length}
-use Rattle.sheet.proofs.RelationFronts.{OnBoards, relation-short, relation-misfits, relation-no-boards, relation-malformed, relation-left-over, relation-read}
+use Rattle.rules.proofs.Lines.{OnBoards, relation-short, relation-misfits, relation-no-boards}
+use Rattle.sheet.specs.Found.{relationFound}
+use Rattle.sheet.proofs.Fronts.{part-length, relation-malformed, relation-left-over, relation-line-found}
 use Rattle.sheet.proofs.lines.relation_line.Statement.{statement}
 use Rattle.sheet.proofs.lines.relation_line.Tie as tie
 
 -- what the tests before the expression showed
-passed : (c : tie.Else6) → OnBoards (c .before .before .before .before .before .before .before .before .before .before .before .before .before .args .v) (c .before .before .before .before .before .before .before .before .before .before .before .before .before .args .words .now)
+passed : (c : tie.Else6)
+    → OnBoards (c .before .before .before .before .before .before .before .before .before .before .before .before .before .args .v)
+    (c .before .before .before .before .before .before .before .before .before .before .before .before .before .args .words .now)
 passed c =
     record {
       fits = record { three = omega tested; low = omega tested; high = omega tested; room = omega tested };
@@ -20,7 +23,7 @@ passed c =
 returns : tie.Need-returns
 returns c =
     let start = c .before .before in
-    relation-short (start .args .v) (start .args .words .now) (c .if1 .taken)
+    sym (ap relationFound (relation-short (start .args .v) (start .args .words .now) (c .if1 .taken)))
 
 shared-slice-read-wide : tie.Need-shared-slice-read-wide
 shared-slice-read-wide c = search needs
@@ -34,8 +37,8 @@ sub-if4 c = search needs
 returns-2 : tie.Need-returns-2
 returns-2 c =
     let start = c .before .before .before .before .before in
-    relation-misfits (start .args .v) (start .args .words .now) (omega tested)
-    (λ low high room. ⊎-elim (λ w. omega tested) (⊎-elim (λ w. omega tested) (λ w. omega tested)) (c .if2 .came))
+    sym (ap relationFound (relation-misfits (start .args .v) (start .args .words .now) (omega tested)
+    (λ low high room. ⊎-elim (λ w. omega tested) (⊎-elim (λ w. omega tested) (λ w. omega tested)) (c .if2 .came))))
 
 shared-slice-read-wide-2 : tie.Need-shared-slice-read-wide-2
 shared-slice-read-wide-2 c = search needs
@@ -52,8 +55,9 @@ wide-requires-3 c κs = search needs
 returns-3 : tie.Need-returns-3
 returns-3 c =
     let start = c .before .before .before .before .before .before .before .before .before .before .before .before in
-    relation-no-boards (start .args .v) (start .args .words .now) (record { three = omega tested; low = omega tested; high = omega tested; room = omega tested })
-    (λ p q. ⊎-elim (λ w. omega tested) (λ w. omega tested) (c .if5 .came))
+    sym (ap relationFound (relation-no-boards (start .args .v) (start .args .words .now)
+    (record { three = omega tested; low = omega tested; high = omega tested; room = omega tested })
+    (λ p q. ⊎-elim (λ w. omega tested) (λ w. omega tested) (c .if5 .came))))
 
 add-end : tie.Need-add-end
 add-end c = omega tested
@@ -83,8 +87,8 @@ returns-4 c =
     let start = c .before .before .before .before .before .before .before .before .before .before .before .before .before .before .before .before .before in
     let width = c .before .before .before .before .before .before .before .before .before .before .before .before .before in
     let known = passed (c .before .before .before .before) in
-    relation-malformed (start .args .v) (start .args .words .now) known (width .wide .result) (width .wide .ensures)
-    (sym (c .enum-told .given .1) ∙ c .before .before .evaluate .ensures)
+    sym (ap relationFound (relation-malformed (start .args .v) (start .args .words .now) known (width .wide .result) (width .wide .ensures)
+    (sym (c .enum-told .given .1) ∙ c .before .before .evaluate .ensures)))
 
 returns-5 : tie.Need-returns-5
 returns-5 c =
@@ -92,8 +96,8 @@ returns-5 c =
     let width = c .before .before .before .before .before .before .before .before .before .before .before .before .before .before .before in
     let known = passed (c .before .before .before .before .before .before) in
     let set = c .before .before in
-    relation-left-over (start .args .v) (start .args .words .now) known (width .wide .result) (width .wide .ensures) _ _
-    (sym (set .x .given .1) ∙ set .before .before .evaluate .ensures) (c .if7 .taken)
+    sym (ap relationFound (relation-left-over (start .args .v) (start .args .words .now) known (width .wide .result) (width .wide .ensures) _ _
+    (sym (set .x .given .1) ∙ set .before .before .evaluate .ensures) (c .if7 .taken)))
 
 sub-t32 : tie.Need-sub-t32
 sub-t32 c = omega tested
@@ -107,7 +111,7 @@ returns-6 c =
     let first = c .before .before .before .before .before .before .before .before .before .before in
     let set = c .before .before in
     rw (width .wide .ensures, first .wide2 .ensures, second .wide3 .ensures)
-    (relation-read (start .args .v) (start .args .words .now) known (width .wide .result) (width .wide .ensures) _ _
+    (relation-line-found (start .args .v) (start .args .words .now) known (width .wide .result) (width .wide .ensures) _ _
     (sym (set .x .given .1) ∙ set .before .before .evaluate .ensures) (c .if7 .left))
 
 pub relation-line-spec : {M : Type 1} → statement M

@@ -8,7 +8,7 @@ ghost use Rattle.sheet.specs.Found.{expressionFound};
 use crate::words::wide;
 
 // What stands at the front of some words: a set and the number of words after its expression, or no expression.
-pub enum Expression {
+pub(crate) enum Expression {
     Set(u8, usize),
     Malformed,
 }
@@ -24,7 +24,7 @@ const COMPLEMENT: u16 = 6;
 const INVERSE: u16 = 7;
 
 // Reads the expression at the front of the words: an operator is followed by its operands, each a whole expression.
-pub fn evaluate(words: &[u16]) -> Expression
+pub(crate) fn evaluate(words: &[u16]) -> Expression
     requires { ⌜ length (now words) ≤ mostWords ⌝ }
     ensures { λ r. ⌜ r ≡ expressionFound (expression (now (words .entry))) ⌝ }
 {

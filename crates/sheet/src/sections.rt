@@ -8,7 +8,7 @@ use crate::refusals::Refusal;
 use crate::refusals::UNFIT;
 
 // A section that its lines fill, or the first refusal in it.
-pub enum SectionFound {
+pub(crate) enum SectionFound {
     Filled,
     Refused(Refusal),
 }
@@ -25,7 +25,7 @@ fn ended(over: usize) -> SectionFound
 }
 
 // Reads as many relation lines as this, for boards below v.
-pub fn relation_lines(v: usize, count: usize, words: &[u16]) -> SectionFound
+pub(crate) fn relation_lines(v: usize, count: usize, words: &[u16]) -> SectionFound
     ensures { λ r. ⌜ r ≡ sectionFound (section (relationLine v) count (now (words .entry))) ⌝ }
 {
     let mut at = 0;
@@ -42,7 +42,7 @@ pub fn relation_lines(v: usize, count: usize, words: &[u16]) -> SectionFound
 }
 
 // Reads as many kind lines as this, for boards below v.
-pub fn kind_lines(v: usize, count: usize, words: &[u16]) -> SectionFound
+pub(crate) fn kind_lines(v: usize, count: usize, words: &[u16]) -> SectionFound
     ensures { λ r. ⌜ r ≡ sectionFound (section (kindLine v) count (now (words .entry))) ⌝ }
 {
     let mut at = 0;

@@ -4,6 +4,7 @@ mod compositions;
 ghost use mathlib.Core.Path.{_≡_};
 ghost use Prim.Native.Nat.{_<_};
 ghost use Rattle.rules.specs.Relations.{relations, sets, meet, join, complement, converse, size, composed, compose};
+ghost use Rattle.relations.specs.Composing.{Composes};
 
 // Same board, above, below, side.
 pub const E: u8 = 1;
@@ -75,12 +76,19 @@ pub fn composed(r: usize, s: usize) -> u8
     SINGLES[RELATIONS * r + s]
 }
 
-// What two sets compose to: the union over all pairs of their members.
-pub fn compose(x: u8, y: u8) -> u8
-    requires { ⌜ (x < sets) × (y < sets) ⌝ }
+// The compositions of all pairs of sets. They are lent to `compose`, so that a loop lays them out once.
+pub fn composition_table() -> [u8; 256]
+    ensures { λ t. ⌜ Composes t ⌝ }
+{
+    compositions::COMPOSITIONS
+}
+
+// What two sets compose to, by that table.
+pub fn compose(table: &[u8; 256], x: u8, y: u8) -> u8
+    requires { ⌜ Composes (now table) × (x < sets) × (y < sets) ⌝ }
     ensures { λ z. ⌜ z ≡ compose x y ⌝ }
 {
-    compositions::COMPOSITIONS[SETS * wide(x) + wide(y)]
+    table[SETS * wide(x) + wide(y)]
 }
 
 // The relations that both sets have.

@@ -11,13 +11,13 @@ use lib.Dec.{T, eqb, ltb, eqb→eq, eqb-refl, ltb→lt, lt→ltb, nltb→le}
 use lib.Pow.{pow-pos}
 use lib.ListN.{length, getD, List·getD-eq-default}
 use Rattle.rules.specs.Relations.{eachOf, relations, sets, has, size}
-use Rattle.rules.specs.Descriptions.{mostBoards, Sheet, WellFormed}
+use Rattle.rules.specs.Descriptions.{mostBoards, Sheet, Reading, good, refused, read, WellFormed}
 use Rattle.rules.specs.Tables.{Table, Inside, cell, at, emptied, total}
 use Rattle.rules.specs.Arrangements.{Arrangement}
 use Rattle.rules.specs.Closed.{strikes}
 use Rattle.rules.specs.Closing.{rules}
-use Rattle.rules.specs.Calls.{wellFormed, idle, arranged}
-use Rattle.rules.proofs.Tests.{and-T, T-and-left, T-and-right, T-decide, count-most}
+use Rattle.rules.specs.Calls.{Outcome, refuse, wellFormed, given, idle, arranged}
+use Rattle.rules.proofs.Tests.{T-true, T-false, and-T, T-and-left, T-and-right, T-decide, count-most}
 use Rattle.rules.proofs.Sets.{within-⊆, ⊆-within, size-one, size-single, size-pos, some-member}
 use Rattle.rules.proofs.Members.{each-of-in, each-of-out, member-at, at-member}
 use Rattle.rules.proofs.Inside.{each-place, in-range, total-mono}
@@ -51,6 +51,29 @@ wellFormed-table v t h =
 
     outer : (k : ℕ) → T (not (ltb k (length t))) → getD t k 0 < sets
     outer k n = subst (λ (x : ℕ). x < sets) (sym (List·getD-eq-default t 0 (nltb→le k (length t) n))) (pow-pos relations)
+
+-- ---- what comes before the rest of a call
+
+module _ (ws t : List ℕ) (f : Sheet → Outcome) where
+  -- by what is read, and then by whether the table is well-formed
+  by-reading : Reading Sheet → Outcome
+  by-reading r = elim r [ good s ↦ elim (wellFormed (s .boards) t) [ true ↦ f s | false ↦ refuse 6 0 t ] | refused n ↦ refuse n 0 t ]
+
+  by-table : Sheet → Bool → Outcome
+  by-table s b = elim b [ true ↦ f s | false ↦ refuse 6 0 t ]
+
+  pub given-refused : (n : ℕ) → read ws ≡ refused n → given ws t f ≡ refuse n 0 t
+  unfolding by-reading
+  given-refused n e = ap by-reading e
+
+  module _ (s : Sheet) (means : read ws ≡ good s) where
+    pub given-no-table : (Table (s .boards) t → ⊥) → given ws t f ≡ refuse 6 0 t
+    unfolding by-reading by-table
+    given-no-table g = ap by-reading means ∙ ap (by-table s) (T-false {b = wellFormed (s .boards) t} (λ a. g (wellFormed-table (s .boards) t a)))
+
+    pub given-good : Table (s .boards) t → given ws t f ≡ f s
+    unfolding by-reading by-table
+    given-good h = ap by-reading means ∙ ap (by-table s) (T-true {b = wellFormed (s .boards) t} (table-wellFormed (s .boards) t h))
 
 -- ---- arrangements
 
@@ -88,7 +111,7 @@ module _ {s : Sheet} (f : WellFormed s) {t : List ℕ} where
 
 -- ---- how many relations a closing can strike
 
-total-most : (t : List ℕ) → total t ≤ relations * length t
+pub total-most : (t : List ℕ) → total t ≤ relations * length t
 unfolding total size
 total-most [] = omega arith
 total-most (x ∷ xs) = omega (arith, count-most relations (has x), total-most xs, mul-suc relations (length xs))

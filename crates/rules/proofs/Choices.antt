@@ -22,7 +22,7 @@ use Rattle.rules.proofs.Composition.{opposite-small, converse-single}
 use Rattle.rules.proofs.Members.{All, all-none, all-one, over-all, all-over, upTo-in, upTo-out}
 use Rattle.rules.proofs.Inside.{each-place, in-range, inside-refl, inside-trans, emptied-in, emptied-out, emptied-inside}
 use Rattle.rules.proofs.Rules.{relations-pos}
-use Rattle.rules.proofs.Largest.{set-each}
+use Rattle.rules.proofs.Strikes.{set-each}
 use Rattle.rules.proofs.Narrowing.{narrowed-table, narrowed-inside, narrowed-at, narrowed-one, narrowed-kept}
 use Rattle.rules.proofs.Arrangements.{One, one-has, one-within, Singles, closed-arrangement, arrangement-kept}
 

@@ -1,88 +1,28 @@
 -- The largest closed table: there is one, the closing computes it, and it has no empty cell or nothing at all. A rule is known here only by
 -- its bound, which grows with the table: such a strike loses no table in which the rule strikes nothing. Assumes nothing.
 use mathlib.Core.Path.{_≡_, refl, sym, ap, _∙_, subst}
-use mathlib.Core.Bool.{Bool, true, false, not}
+use mathlib.Core.Bool.{Bool, true, false}
 use mathlib.Core.Logic.{⊎-elim}
 use mathlib.Core.List.{List, [], _∷_, List·Memᴰ·head, List·Memᴰ·tail, List·Memᴰ·not-nil, List·Memᴰ·cases-cons}
 use Prim.Native.Nat.{ℕ, zero, suc, _+_, _*_, _≤_, _<_}
 use native.Mathlib.Nat.{not-suc-le-zero}
 use native.Mathlib.Omega.{arith}
 use lib.Pow.{pow-pos}
-use lib.Dec.{T, eqb, ltb, eqb→eq, eqb-refl, ltb→lt, nltb→le, T-not}
-use lib.ListN.{length, getD, set, replicate, length-set, length-replicate, getD-replicate, List·getD-eq-default}
-use lib.Seq.{getD-set-same, getD-set-other, set-out, ext-getD}
-use Rattle.rules.specs.Relations.{relations, sets, meet, _⊆_, converse, compose}
+use lib.Dec.{T, eqb, ltb, eqb→eq, eqb-refl, ltb→lt, nltb→le}
+use lib.ListN.{length, getD, replicate, length-replicate, getD-replicate, List·getD-eq-default}
+use lib.Seq.{ext-getD}
+use Rattle.rules.specs.Relations.{relations, sets, _⊆_, converse, compose}
 use Rattle.rules.specs.Descriptions.{Sheet}
 use Rattle.rules.specs.Tables.{Table, Inside, cell, emptied, total}
 use Rattle.rules.specs.Closed.{Closed, Largest}
 use Rattle.rules.specs.Closing.{Rule, Idle, rules, strike, sweep, sweeps, closing}
 use Rattle.rules.proofs.Tests.{true-T, T-decide}
-use Rattle.rules.proofs.Sets.{⊆-refl, ⊆-trans, ⊆-zero, zero-⊆, meet-small, meet-left, meet-right, meet-largest}
+use Rattle.rules.proofs.Sets.{⊆-trans, ⊆-zero, zero-⊆}
 use Rattle.rules.proofs.Composition.{converse-zero, compose-zero-left}
 use Rattle.rules.proofs.Members.{All}
 use Rattle.rules.proofs.Inside.{each-place, inside-refl, inside-trans, inside-antisym, total-mono, total-tight, emptied-out}
+use Rattle.rules.proofs.Strikes.{strike-table, strike-inside, strike-keeps, strike-idle}
 use Rattle.rules.proofs.Rules.{Grows, rules-grow, closed-idle, idle-closed}
-
--- ---- one strike
-
--- what holds of each cell, and of a at place k, holds of each cell after a is put there
-pub set-each : (P : ℕ → ℕ → Type 0) (t : List ℕ) (k a : ℕ) → ((j : ℕ) → P j (getD t j 0)) → P k a → (j : ℕ) → P j (getD (set t k a) j 0)
-set-each P t k a h e j = ⊎-elim here there (T-decide (eqb j k))
-  where
-    there : T (not (eqb j k)) → P j (getD (set t k a) j 0)
-    there n =
-        subst (P j) (sym (getD-set-other t k j a 0 (λ e. T-not (eqb j k) n (subst (λ (i : ℕ). T (eqb j i)) e (eqb-refl j))))) (h j)
-
-    here : T (eqb j k) → P j (getD (set t k a) j 0)
-    here d =
-        subst (λ (i : ℕ). P i (getD (set t k a) i 0)) (sym (eqb→eq j k d))
-        (⊎-elim (λ l. subst (P k) (sym (getD-set-same t k a 0 (ltb→lt k (length t) l))) e)
-        (λ n. subst (λ (u : List ℕ). P k (getD u k 0)) (sym (set-out t k a (nltb→le k (length t) n))) (h k)) (T-decide (ltb k (length t))))
-
-module _ (v : ℕ) (r : Rule) {t : List ℕ} where
-  strike-table : Table v t → Table v (strike v r t)
-  unfolding strike
-  strike-table h =
-      let k = v * r .row + r .column in
-      let c = meet (getD t k 0) (r .bound t) in
-      record {
-        cells = length-set t k c ∙ h .cells;
-        small = set-each (λ j x. x < sets) t k c (h .small) (meet-small (getD t k 0) (r .bound t));
-      }
-
-  strike-inside : Inside (strike v r t) t
-  unfolding strike
-  strike-inside =
-      let k = v * r .row + r .column in
-      let c = meet (getD t k 0) (r .bound t) in
-      record {
-        cells = length-set t k c;
-        each = set-each (λ j x. x ⊆ getD t j 0) t k c (λ j. ⊆-refl (getD t j 0)) (meet-left (getD t k 0) (r .bound t));
-      }
-
-  -- a strike by a bound that grows loses no table in which the rule strikes nothing
-  strike-keeps : Grows (r .bound) → {w : List ℕ} → Inside w t → Idle v w r → Inside w (strike v r t)
-  unfolding strike
-  strike-keeps g {w} i d =
-      let k = v * r .row + r .column in
-      let c = meet (getD t k 0) (r .bound t) in
-      record {
-        cells = i .cells ∙ sym (length-set t k c);
-        each = set-each (λ j x. getD w j 0 ⊆ x) t k c (i .each) (meet-largest (i .each k) (⊆-trans d (g w t i)));
-      }
-
-  -- a strike that changes nothing strikes nothing
-  strike-idle : strike v r t ≡ t → Idle v t r
-  unfolding strike
-  strike-idle e =
-      let k = v * r .row + r .column in
-      let c = meet (getD t k 0) (r .bound t) in
-      ⊎-elim
-      (λ l.
-      let f : c ≡ getD t k 0 = sym (getD-set-same t k c 0 (ltb→lt k (length t) l)) ∙ ap (λ (u : List ℕ). getD u k 0) e in
-      subst (λ (x : ℕ). x ⊆ r .bound t) f (meet-right (getD t k 0) (r .bound t)))
-      (λ n. subst (λ (x : ℕ). x ⊆ r .bound t) (sym (List·getD-eq-default t 0 (nltb→le k (length t) n))) (zero-⊆ (r .bound t)))
-      (T-decide (ltb k (length t)))
 
 -- ---- sweeps
 
@@ -104,30 +44,31 @@ all-cons {P} {r} a h x m = ⊎-elim (λ (e : x ≡ r). subst P (sym e) a) (h x) 
 
 module _ (v : ℕ) where
   sweep-table : (rs : List Rule) (t : List ℕ) → Table v t → Table v (sweep v rs t)
-  unfolding sweep
+  unfolding strike sweep
   sweep-table [] t h = h
-  sweep-table (r ∷ rs) t h = sweep-table rs (strike v r t) (strike-table v r h)
+  sweep-table (r ∷ rs) t h = sweep-table rs (strike v r t) (strike-table t (v * r .row + r .column) (r .bound t) h)
 
   sweep-inside : (rs : List Rule) (t : List ℕ) → Inside (sweep v rs t) t
-  unfolding sweep
+  unfolding strike sweep
   sweep-inside [] t = inside-refl t
-  sweep-inside (r ∷ rs) t = inside-trans (sweep-inside rs (strike v r t)) (strike-inside v r)
+  sweep-inside (r ∷ rs) t = inside-trans (sweep-inside rs (strike v r t)) (strike-inside t (v * r .row + r .column) (r .bound t))
 
   sweep-keeps : (rs : List Rule) (t : List ℕ) → All (λ r. Grows (r .bound)) rs → (w : List ℕ) → Inside w t → All (Idle v w) rs
       → Inside w (sweep v rs t)
-  unfolding sweep
+  unfolding strike sweep
   sweep-keeps [] t g w i d = i
   sweep-keeps (r ∷ rs) t g w i d =
-      sweep-keeps rs (strike v r t) (all-tail g) w (strike-keeps v r (all-head g) i (all-head d)) (all-tail d)
+      let k = v * r .row + r .column in
+      sweep-keeps rs (strike v r t) (all-tail g) w (strike-keeps t k (r .bound t) i (⊆-trans (all-head d) (all-head g w t i))) (all-tail d)
 
   -- a sweep that leaves as many relations found each rule idle
   sweep-idle : (rs : List Rule) (t : List ℕ) → Table v t → total t ≤ total (sweep v rs t) → All (Idle v t) rs
-  unfolding sweep
+  unfolding strike sweep
   sweep-idle [] t h l = λ x m. absurd (List·Memᴰ·not-nil m)
   sweep-idle (r ∷ rs) t h l =
       let e : strike v r t ≡ t =
-      total-tight (strike-table v r h) h (strike-inside v r) (omega (arith, total-mono (sweep-inside rs (strike v r t)))) in
-      all-cons (strike-idle v r e) (sweep-idle rs t h (subst (λ (u : List ℕ). total t ≤ total (sweep v rs u)) e l))
+      total-tight (strike-table t (v * r .row + r .column) (r .bound t) h) h (strike-inside t (v * r .row + r .column) (r .bound t)) (omega (arith, total-mono (sweep-inside rs (strike v r t)))) in
+      all-cons (strike-idle t (v * r .row + r .column) (r .bound t) e) (sweep-idle rs t h (subst (λ (u : List ℕ). total t ≤ total (sweep v rs u)) e l))
 
   sweeps-left : (n : ℕ) (rs : List Rule) (t : List ℕ) → All (λ r. Grows (r .bound)) rs → Table v t → total t < n → Left v rs t (sweeps n v rs t)
   unfolding sweeps

@@ -5,6 +5,7 @@ pub mod Sets
 pub mod Composition
 pub mod Members
 pub mod Inside
+pub mod Strikes
 pub mod Rules
 pub mod Largest
 pub mod Arrangements

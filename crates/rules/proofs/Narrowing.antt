@@ -12,7 +12,7 @@ use Rattle.rules.specs.Tables.{Table, Inside}
 use Rattle.rules.proofs.Digits.{has-small}
 use Rattle.rules.proofs.Sets.{⊆-refl, single-⊆, single-small, size-mono, size-single}
 use Rattle.rules.proofs.Inside.{inside-trans}
-use Rattle.rules.proofs.Largest.{set-each}
+use Rattle.rules.proofs.Strikes.{set-each}
 
 module _ {v : ℕ} {t : List ℕ} (h : Table v t) (k r : ℕ) (member : T (has (getD t k 0) r)) where
   pub narrowed-small : r < relations

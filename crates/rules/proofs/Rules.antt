@@ -22,24 +22,24 @@ use Rattle.rules.proofs.Members.{All, all-none, all-one, one-all, all-a
 -- ---- the list of rules, by what holds of each of them
 
 module _ (P : Rule → Type 0) where
-  all-only : (b : Bool) (rs : List Rule) → (T b → All P rs) → All P (only b rs)
+  pub all-only : (b : Bool) (rs : List Rule) → (T b → All P rs) → All P (only b rs)
   all-only true rs h = h tt
   all-only false rs h = all-none P
 
-  only-all : (b : Bool) (rs : List Rule) → All P (only b rs) → T b → All P rs
+  pub only-all : (b : Bool) (rs : List Rule) → All P (only b rs) → T b → All P rs
   only-all true rs h t = h
   only-all false rs h t = absurd t
 
-  all-boards : (s : Sheet) (f : ℕ → List Rule) → ((p : ℕ) → p < s .boards → All P (f p)) → All P (boardsOf s f)
+  all-boards : (s : Sheet) (f : ℕ → List Rule) → ((p : ℕ) → p < s .boards → All P (f p)) → All P (boardsOf (s .boards) f)
   all-boards s f h = all-over P f (upTo (s .boards)) (λ p m. h p (upTo-out (s .boards) p m))
 
-  boards-all : (s : Sheet) (f : ℕ → List Rule) → All P (boardsOf s f) → (p : ℕ) → p < s .boards → All P (f p)
+  boards-all : (s : Sheet) (f : ℕ → List Rule) → All P (boardsOf (s .boards) f) → (p : ℕ) → p < s .boards → All P (f p)
   boards-all s f h p l = over-all P f (upTo (s .boards)) h p (upTo-in l)
 
-  all-ways : (k : KindLine) (f : ℕ → List Rule) → ((i : ℕ) → i < width k → All P (f i)) → All P (waysOf k f)
+  pub all-ways : (k : KindLine) (f : ℕ → List Rule) → ((i : ℕ) → i < width k → All P (f i)) → All P (waysOf k f)
   all-ways k f h = all-over P f (upTo (width k)) (λ i m. h i (upTo-out (width k) i m))
 
-  ways-all : (k : KindLine) (f : ℕ → List Rule) → All P (waysOf k f) → (i : ℕ) → i < width k → All P (f i)
+  pub ways-all : (k : KindLine) (f : ℕ → List Rule) → All P (waysOf k f) → (i : ℕ) → i < width k → All P (f i)
   ways-all k f h i l = over-all P f (upTo (width k)) h i (upTo-in l)
 
   -- the rule that (p, q) lie within b
@@ -56,13 +56,13 @@ module _ (P : Rule → Type 0) where
     pub r5 : (k : KindLine) → List·Memᴰ k (s .kinds) → (i : ℕ) → i < width k → At (k .p) (way k i) (λ t. A)
     pub r5′ : (k : KindLine) → List·Memᴰ k (s .kinds) → (i j : ℕ) → i < width k → j < width k → T (not (eqb i j))
         → At (way k i) (way k j) (λ t. S)
-    pub r6 : (k : KindLine) → List·Memᴰ k (s .kinds) → (z : ℕ) → z < s .boards → At (k .p) z (λ t. bound6 s t k z)
+    pub r6 : (k : KindLine) → List·Memᴰ k (s .kinds) → (z : ℕ) → z < s .boards → At (k .p) z (λ t. bound6 (s .boards) t k z)
     pub r6′ : (k : KindLine) → List·Memᴰ k (s .kinds) → (z : ℕ) → z < s .boards → (i : ℕ) → i < width k
-        → At (way k i) z (λ t. bound6′ s t k i z)
+        → At (way k i) z (λ t. bound6′ (s .boards) t k i z)
     pub r7 : (k : KindLine) → List·Memᴰ k (s .kinds) → (l : KindLine) → List·Memᴰ l (s .kinds)
-        → At (k .p) (l .p) (λ t. bound7 s t k l)
+        → At (k .p) (l .p) (λ t. bound7 (s .boards) t k l)
     pub r7′ : (k : KindLine) → List·Memᴰ k (s .kinds) → (l : KindLine) → List·Memᴰ l (s .kinds) → T (agree k l) → (i : ℕ) → i < width k
-        → At (way k i) (way l i) (λ t. bound7′ s t k l)
+        → At (way k i) (way l i) (λ t. bound7′ (s .boards) t k l)
 
   module _ (s : Sheet) where
     all5 : Rules s → (k : KindLine) → List·Memᴰ k (s .kinds) → (i : ℕ) → i < width k
@@ -72,70 +72,70 @@ module _ (P : Rule → Type 0) where
         (λ j n. all-only (not (eqb i j)) (lies (way k i) (way k j) (λ t. S)) (λ d. all-one P (h .r5′ k m i j l n d)))
 
     all6 : Rules s → (k : KindLine) → List·Memᴰ k (s .kinds) → (z : ℕ) → z < s .boards
-        → All P (waysOf k (λ i. lies (way k i) z (λ t. bound6′ s t k i z)))
-    all6 h k m z n = all-ways k (λ i. lies (way k i) z (λ t. bound6′ s t k i z)) (λ i l. all-one P (h .r6′ k m z n i l))
+        → All P (waysOf k (λ i. lies (way k i) z (λ t. bound6′ (s .boards) t k i z)))
+    all6 h k m z n = all-ways k (λ i. lies (way k i) z (λ t. bound6′ (s .boards) t k i z)) (λ i l. all-one P (h .r6′ k m z n i l))
 
     all7 : Rules s → (k : KindLine) → List·Memᴰ k (s .kinds) → (l : KindLine) → List·Memᴰ l (s .kinds)
-        → All P (only (agree k l) (waysOf k (λ i. lies (way k i) (way l i) (λ t. bound7′ s t k l))))
+        → All P (only (agree k l) (waysOf k (λ i. lies (way k i) (way l i) (λ t. bound7′ (s .boards) t k l))))
     all7 h k m l n =
-        all-only (agree k l) (waysOf k (λ i. lies (way k i) (way l i) (λ t. bound7′ s t k l)))
-        (λ a. all-ways k (λ i. lies (way k i) (way l i) (λ t. bound7′ s t k l)) (λ i b. all-one P (h .r7′ k m l n a i b)))
+        all-only (agree k l) (waysOf k (λ i. lies (way k i) (way l i) (λ t. bound7′ (s .boards) t k l)))
+        (λ a. all-ways k (λ i. lies (way k i) (way l i) (λ t. bound7′ (s .boards) t k l)) (λ i b. all-one P (h .r7′ k m l n a i b)))
 
     -- what holds of each rule holds of the list
     pub all-rules : Rules s → All P (rules s)
     unfolding rules rules1 rules2 rules3 rules4 rules5 rules6 rules7
     all-rules h =
-        all-append P (rules1 s) (all-boards s _ (λ p l. all-one P (h .r1 p l)))
-        (all-append P (rules2 s) (all-boards s _ (λ p l. all-boards s _ (λ q m. all-one P (h .r2 p q l m))))
-        (all-append P (rules3 s) (all-boards s _ (λ p l. all-boards s _ (λ q m. all-boards s _ (λ r n. all-one P (h .r3 p q r l m n)))))
-        (all-append P (rules4 s) (all-over P _ (s .lines) (λ l m. all-one P (h .r4 l m)))
-        (all-append P (rules5 s)
+        all-append P (rules1 (s .boards)) (all-boards s _ (λ p l. all-one P (h .r1 p l)))
+        (all-append P (rules2 (s .boards)) (all-boards s _ (λ p l. all-boards s _ (λ q m. all-one P (h .r2 p q l m))))
+        (all-append P (rules3 (s .boards)) (all-boards s _ (λ p l. all-boards s _ (λ q m. all-boards s _ (λ r n. all-one P (h .r3 p q r l m n)))))
+        (all-append P (rules4 (s .lines)) (all-over P _ (s .lines) (λ l m. all-one P (h .r4 l m)))
+        (all-append P (rules5 (s .kinds))
         (all-over P _ (s .kinds) (λ k m. all-ways k _ (λ i l. all-append P (lies (k .p) (way k i) (λ t. A)) (all-one P (h .r5 k m i l)) (all5 h k m i l))))
-        (all-append P (rules6 s)
+        (all-append P (rules6 (s .boards) (s .kinds))
         (all-over P _ (s .kinds) (λ k m. all-boards s _ (λ z n.
-        all-append P (lies (k .p) z (λ t. bound6 s t k z)) (all-one P (h .r6 k m z n)) (all6 h k m z n))))
+        all-append P (lies (k .p) z (λ t. bound6 (s .boards) t k z)) (all-one P (h .r6 k m z n)) (all6 h k m z n))))
         (all-over P _ (s .kinds) (λ k m. all-over P _ (s .kinds) (λ l n.
-        all-append P (lies (k .p) (l .p) (λ t. bound7 s t k l)) (all-one P (h .r7 k m l n)) (all7 h k m l n)))))))))
+        all-append P (lies (k .p) (l .p) (λ t. bound7 (s .boards) t k l)) (all-one P (h .r7 k m l n)) (all7 h k m l n)))))))))
 
     -- and what holds of the list holds of each rule
     pub rules-all : All P (rules s) → Rules s
     unfolding rules rules1 rules2 rules3 rules4 rules5 rules6 rules7
     rules-all h =
-        let h2 = append-right P (rules1 s) (rules2 s ++ (rules3 s ++ (rules4 s ++ (rules5 s ++ (rules6 s ++ rules7 s))))) h in
-        let h3 = append-right P (rules2 s) (rules3 s ++ (rules4 s ++ (rules5 s ++ (rules6 s ++ rules7 s)))) h2 in
-        let h4 = append-right P (rules3 s) (rules4 s ++ (rules5 s ++ (rules6 s ++ rules7 s))) h3 in
-        let h5 = append-right P (rules4 s) (rules5 s ++ (rules6 s ++ rules7 s)) h4 in
-        let h6 = append-right P (rules5 s) (rules6 s ++ rules7 s) h5 in
-        let h7 = append-right P (rules6 s) (rules7 s) h6 in
+        let h2 = append-right P (rules1 (s .boards)) (rules2 (s .boards) ++ (rules3 (s .boards) ++ (rules4 (s .lines) ++ (rules5 (s .kinds) ++ (rules6 (s .boards) (s .kinds) ++ rules7 (s .boards) (s .kinds)))))) h in
+        let h3 = append-right P (rules2 (s .boards)) (rules3 (s .boards) ++ (rules4 (s .lines) ++ (rules5 (s .kinds) ++ (rules6 (s .boards) (s .kinds) ++ rules7 (s .boards) (s .kinds))))) h2 in
+        let h4 = append-right P (rules3 (s .boards)) (rules4 (s .lines) ++ (rules5 (s .kinds) ++ (rules6 (s .boards) (s .kinds) ++ rules7 (s .boards) (s .kinds)))) h3 in
+        let h5 = append-right P (rules4 (s .lines)) (rules5 (s .kinds) ++ (rules6 (s .boards) (s .kinds) ++ rules7 (s .boards) (s .kinds))) h4 in
+        let h6 = append-right P (rules5 (s .kinds)) (rules6 (s .boards) (s .kinds) ++ rules7 (s .boards) (s .kinds)) h5 in
+        let h7 = append-right P (rules6 (s .boards) (s .kinds)) (rules7 (s .boards) (s .kinds)) h6 in
         record {
-          r1 = λ p l. one-all P (boards-all s _ (append-left P (rules1 s) _ h) p l);
-          r2 = λ p q l m. one-all P (boards-all s _ (boards-all s _ (append-left P (rules2 s) _ h2) p l) q m);
-          r3 = λ p q r l m n. one-all P (boards-all s _ (boards-all s _ (boards-all s _ (append-left P (rules3 s) _ h3) p l) q m) r n);
-          r4 = λ l m. one-all P (over-all P _ (s .lines) (append-left P (rules4 s) _ h4) l m);
+          r1 = λ p l. one-all P (boards-all s _ (append-left P (rules1 (s .boards)) _ h) p l);
+          r2 = λ p q l m. one-all P (boards-all s _ (boards-all s _ (append-left P (rules2 (s .boards)) _ h2) p l) q m);
+          r3 = λ p q r l m n. one-all P (boards-all s _ (boards-all s _ (boards-all s _ (append-left P (rules3 (s .boards)) _ h3) p l) q m) r n);
+          r4 = λ l m. one-all P (over-all P _ (s .lines) (append-left P (rules4 (s .lines)) _ h4) l m);
           r5 = λ k m i l. one-all P (append-left P (lies (k .p) (way k i) (λ t. A)) _ (at5 h5 k m i l));
           r5′ =
               λ k m i j l n d.
               one-all P (only-all (not (eqb i j)) _ (ways-all k _ (append-right P (lies (k .p) (way k i) (λ t. A)) _ (at5 h5 k m i l)) j n) d);
-          r6 = λ k m z n. one-all P (append-left P (lies (k .p) z (λ t. bound6 s t k z)) _ (at6 h6 k m z n));
+          r6 = λ k m z n. one-all P (append-left P (lies (k .p) z (λ t. bound6 (s .boards) t k z)) _ (at6 h6 k m z n));
           r6′ =
-              λ k m z n i l. one-all P (ways-all k _ (append-right P (lies (k .p) z (λ t. bound6 s t k z)) _ (at6 h6 k m z n)) i l);
-          r7 = λ k m l n. one-all P (append-left P (lies (k .p) (l .p) (λ t. bound7 s t k l)) _ (at7 h7 k m l n));
+              λ k m z n i l. one-all P (ways-all k _ (append-right P (lies (k .p) z (λ t. bound6 (s .boards) t k z)) _ (at6 h6 k m z n)) i l);
+          r7 = λ k m l n. one-all P (append-left P (lies (k .p) (l .p) (λ t. bound7 (s .boards) t k l)) _ (at7 h7 k m l n));
           r7′ =
               λ k m l n a i b.
               one-all P
-              (ways-all k _ (only-all (agree k l) _ (append-right P (lies (k .p) (l .p) (λ t. bound7 s t k l)) _ (at7 h7 k m l n)) a) i b);
+              (ways-all k _ (only-all (agree k l) _ (append-right P (lies (k .p) (l .p) (λ t. bound7 (s .boards) t k l)) _ (at7 h7 k m l n)) a) i b);
         }
       where
-        at5 : All P (rules5 s ++ (rules6 s ++ rules7 s)) → (k : KindLine) → List·Memᴰ k (s .kinds) → (i : ℕ) → i < width k
+        at5 : All P (rules5 (s .kinds) ++ (rules6 (s .boards) (s .kinds) ++ rules7 (s .boards) (s .kinds))) → (k : KindLine) → List·Memᴰ k (s .kinds) → (i : ℕ) → i < width k
             → All P (lies (k .p) (way k i) (λ t. A) ++ waysOf k (λ j. only (not (eqb i j)) (lies (way k i) (way k j) (λ t. S))))
-        at5 h k m i l = ways-all k _ (over-all P _ (s .kinds) (append-left P (rules5 s) (rules6 s ++ rules7 s) h) k m) i l
+        at5 h k m i l = ways-all k _ (over-all P _ (s .kinds) (append-left P (rules5 (s .kinds)) (rules6 (s .boards) (s .kinds) ++ rules7 (s .boards) (s .kinds)) h) k m) i l
 
-        at6 : All P (rules6 s ++ rules7 s) → (k : KindLine) → List·Memᴰ k (s .kinds) → (z : ℕ) → z < s .boards
-            → All P (lies (k .p) z (λ t. bound6 s t k z) ++ waysOf k (λ i. lies (way k i) z (λ t. bound6′ s t k i z)))
-        at6 h k m z n = boards-all s _ (over-all P _ (s .kinds) (append-left P (rules6 s) (rules7 s) h) k m) z n
+        at6 : All P (rules6 (s .boards) (s .kinds) ++ rules7 (s .boards) (s .kinds)) → (k : KindLine) → List·Memᴰ k (s .kinds) → (z : ℕ) → z < s .boards
+            → All P (lies (k .p) z (λ t. bound6 (s .boards) t k z) ++ waysOf k (λ i. lies (way k i) z (λ t. bound6′ (s .boards) t k i z)))
+        at6 h k m z n = boards-all s _ (over-all P _ (s .kinds) (append-left P (rules6 (s .boards) (s .kinds)) (rules7 (s .boards) (s .kinds)) h) k m) z n
 
-        at7 : All P (rules7 s) → (k : KindLine) → List·Memᴰ k (s .kinds) → (l : KindLine) → List·Memᴰ l (s .kinds)
-            → All P (lies (k .p) (l .p) (λ t. bound7 s t k l) ++ only (agree k l) (waysOf k (λ i. lies (way k i) (way l i) (λ t. bound7′ s t k l))))
+        at7 : All P (rules7 (s .boards) (s .kinds)) → (k : KindLine) → List·Memᴰ k (s .kinds) → (l : KindLine) → List·Memᴰ l (s .kinds)
+            → All P (lies (k .p) (l .p) (λ t. bound7 (s .boards) t k l) ++ only (agree k l) (waysOf k (λ i. lies (way k i) (way l i) (λ t. bound7′ (s .boards) t k l))))
         at7 h k m l n = over-all P _ (s .kinds) (over-all P _ (s .kinds) h k m) l n
 
 -- ---- what a bound says
@@ -144,14 +144,14 @@ pub relations-pos : 1 < relations
 unfolding relations
 relations-pos = omega arith
 
-same-small : same < relations
+pub same-small : same < relations
 same-small = omega (arith, relations-pos)
 
-unless-in : (b : Bool) (x m : ℕ) → (T (not b) → x ⊆ m) → x ⊆ unless b m
+pub unless-in : (b : Bool) (x m : ℕ) → (T (not b) → x ⊆ m) → x ⊆ unless b m
 unless-in true x m f = ⊆-full x
 unless-in false x m f = f tt
 
-unless-out : (b : Bool) (x m : ℕ) → x ⊆ unless b m → T (not b) → x ⊆ m
+pub unless-out : (b : Bool) (x m : ℕ) → x ⊆ unless b m → T (not b) → x ⊆ m
 unless-out true x m s t = absurd t
 unless-out false x m s t = s
 
@@ -202,13 +202,13 @@ module _ (s : Sheet) (t : List ℕ) where
         not-misses (at s t (way k i) z)
         (λ a. T-not (someBelow (width k) (λ i. reaches (at s t (way k i) z))) n (some-in (width k) (λ i. reaches (at s t (way k i) z)) i h a))
 
-    says6 : at s t (k .p) z ⊆ bound6 s t k z → ((i : ℕ) → i < width k → Misses (at s t (way k i) z)) → Lacks (at s t (k .p) z) above
+    says6 : at s t (k .p) z ⊆ bound6 (s .boards) t k z → ((i : ℕ) → i < width k → Misses (at s t (way k i) z)) → Lacks (at s t (k .p) z) above
     unfolding bound6
     says6 h f =
         ⊆-lacks (at s t (k .p) z) above relations-pos
         (unless-out (someBelow (width k) (λ i. reaches (at s t (way k i) z))) (at s t (k .p) z) (complement A) h (none-reaches f))
 
-    said6 : (((i : ℕ) → i < width k → Misses (at s t (way k i) z)) → Lacks (at s t (k .p) z) above) → at s t (k .p) z ⊆ bound6 s t k z
+    pub said6 : (((i : ℕ) → i < width k → Misses (at s t (way k i) z)) → Lacks (at s t (k .p) z) above) → at s t (k .p) z ⊆ bound6 (s .boards) t k z
     unfolding bound6
     said6 f =
         unless-in (someBelow (width k) (λ i. reaches (at s t (way k i) z))) (at s t (k .p) z) (complement A)
@@ -221,7 +221,7 @@ module _ (s : Sheet) (t : List ℕ) where
       others : Bool
       others = someBelow (width k) (λ j. not (eqb i j) && reaches (at s t (way k j) z))
 
-      says6′ : at s t (way k i) z ⊆ bound6′ s t k i z → at s t (k .p) z ⊆ A
+      says6′ : at s t (way k i) z ⊆ bound6′ (s .boards) t k i z → at s t (k .p) z ⊆ A
           → ((j : ℕ) → j < width k → (i ≡ j → ⊥) → Misses (at s t (way k j) z)) → at s t (way k i) z ⊆ join E A
       unfolding bound6′ escapes others
       says6′ h a f = unless-out (escapes || others) (at s t (way k i) z) (join E A) h (not-T (escapes || others) (λ o. ⊎-elim left right (T-or escapes others o)))
@@ -238,8 +238,8 @@ module _ (s : Sheet) (t : List ℕ) where
                   (f (m .0) (m .1) (T-differ (T-and-left (not (eqb i (m .0))) (reaches (at s t (way k (m .0)) z)) (m .2))))
                   (T-and-right (not (eqb i (m .0))) (reaches (at s t (way k (m .0)) z)) (m .2))
 
-      said6′ : (at s t (k .p) z ⊆ A → ((j : ℕ) → j < width k → (i ≡ j → ⊥) → Misses (at s t (way k j) z)) → at s t (way k i) z ⊆ join E A)
-          → at s t (way k i) z ⊆ bound6′ s t k i z
+      pub said6′ : (at s t (k .p) z ⊆ A → ((j : ℕ) → j < width k → (i ≡ j → ⊥) → Misses (at s t (way k j) z)) → at s t (way k i) z ⊆ join E A)
+          → at s t (way k i) z ⊆ bound6′ (s .boards) t k i z
       unfolding bound6′ escapes others
       said6′ f =
           unless-in (escapes || others) (at s t (way k i) z) (join E A)
@@ -258,14 +258,14 @@ module _ (s : Sheet) (t : List ℕ) where
     paired : Bool
     paired = eachBelow (width k) (λ i. has (at s t (way k i) (way l i)) same)
 
-    says7 : at s t (k .p) (l .p) ⊆ bound7 s t k l → (Alike k l → ⊥) → Lacks (at s t (k .p) (l .p)) same
+    says7 : at s t (k .p) (l .p) ⊆ bound7 (s .boards) t k l → (Alike k l → ⊥) → Lacks (at s t (k .p) (l .p)) same
     unfolding bound7 paired
     says7 h f =
         ⊆-lacks (at s t (k .p) (l .p)) same same-small
         (unless-out (agree k l && paired) (at s t (k .p) (l .p)) (complement E) h
         (not-T (agree k l && paired) (λ a. f (agree-alike k l (T-and-left (agree k l) paired a)))))
 
-    says7′ : at s t (k .p) (l .p) ⊆ bound7 s t k l → (i : ℕ) → i < width k → Lacks (at s t (way k i) (way l i)) same
+    says7′ : at s t (k .p) (l .p) ⊆ bound7 (s .boards) t k l → (i : ℕ) → i < width k → Lacks (at s t (way k i) (way l i)) same
         → Lacks (at s t (k .p) (l .p)) same
     unfolding bound7 paired
     says7′ h i g f =
@@ -275,9 +275,9 @@ module _ (s : Sheet) (t : List ℕ) where
         (λ a. T-not (has (at s t (way k i) (way l i)) same) f
         (each-at (width k) (λ i. has (at s t (way k i) (way l i)) same) (T-and-right (agree k l) paired a) i g))))
 
-    said7 : ((Alike k l → ⊥) → Lacks (at s t (k .p) (l .p)) same)
+    pub said7 : ((Alike k l → ⊥) → Lacks (at s t (k .p) (l .p)) same)
         → (Alike k l → (i : ℕ) → i < width k → Lacks (at s t (way k i) (way l i)) same → Lacks (at s t (k .p) (l .p)) same)
-        → at s t (k .p) (l .p) ⊆ bound7 s t k l
+        → at s t (k .p) (l .p) ⊆ bound7 (s .boards) t k l
     unfolding bound7 paired
     said7 f g =
         unless-in (agree k l && paired) (at s t (k .p) (l .p)) (complement E)
@@ -294,13 +294,13 @@ module _ (s : Sheet) (t : List ℕ) where
             (λ i b.
             T-not-not (has (at s t (way k i) (way l i)) same) (λ c. T-not (has (at s t (k .p) (l .p)) same) (g a i b c) h)))))
 
-    says7″ : (i : ℕ) → at s t (way k i) (way l i) ⊆ bound7′ s t k l → at s t (k .p) (l .p) ⊆ E → at s t (way k i) (way l i) ⊆ E
+    pub says7″ : (i : ℕ) → at s t (way k i) (way l i) ⊆ bound7′ (s .boards) t k l → at s t (k .p) (l .p) ⊆ E → at s t (way k i) (way l i) ⊆ E
     unfolding bound7′
     says7″ i h a =
         unless-out (not (within (at s t (k .p) (l .p)) E)) (at s t (way k i) (way l i)) E h
         (not-T (not (within (at s t (k .p) (l .p)) E)) (λ e. T-not (within (at s t (k .p) (l .p)) E) e (⊆-within a)))
 
-    said7″ : (i : ℕ) → (at s t (k .p) (l .p) ⊆ E → at s t (way k i) (way l i) ⊆ E) → at s t (way k i) (way l i) ⊆ bound7′ s t k l
+    pub said7″ : (i : ℕ) → (at s t (k .p) (l .p) ⊆ E → at s t (way k i) (way l i) ⊆ E) → at s t (way k i) (way l i) ⊆ bound7′ (s .boards) t k l
     unfolding bound7′
     said7″ i f =
         unless-in (not (within (at s t (k .p) (l .p)) E)) (at s t (way k i) (way l i)) E
@@ -372,7 +372,7 @@ module _ (s : Sheet) {u t : List ℕ} (i : Inside u t) where
   inside : (p q : ℕ) → at s u p q ⊆ at s t p q
   inside p q = i .each (s .boards * p + q)
 
-  bound6-grows : (k : KindLine) (z : ℕ) → bound6 s u k z ⊆ bound6 s t k z
+  pub bound6-grows : (k : KindLine) (z : ℕ) → bound6 (s .boards) u k z ⊆ bound6 (s .boards) t k z
   unfolding bound6
   bound6-grows k z =
       unless-grows (someBelow (width k) (λ i. reaches (at s u (way k i) z))) (someBelow (width k) (λ i. reaches (at s t (way k i) z))) (complement A)
@@ -381,7 +381,7 @@ module _ (s : Sheet) {u t : List ℕ} (i : Inside u t) where
       more : (i : ℕ) × (i < width k) × T (reaches (at s u (way k i) z)) → T (someBelow (width k) (λ i. reaches (at s t (way k i) z)))
       more m = some-in (width k) (λ i. reaches (at s t (way k i) z)) (m .0) (m .1) (reaches-grows (inside (way k (m .0)) z) (m .2))
 
-  bound6′-grows : (k : KindLine) (j z : ℕ) → bound6′ s u k j z ⊆ bound6′ s t k j z
+  pub bound6′-grows : (k : KindLine) (j z : ℕ) → bound6′ (s .boards) u k j z ⊆ bound6′ (s .boards) t k j z
   unfolding bound6′
   bound6′-grows k j z =
       unless-grows
@@ -399,7 +399,7 @@ module _ (s : Sheet) {u t : List ℕ} (i : Inside u t) where
           (and-T (not (eqb j (m .0))) (reaches (at s t (way k (m .0)) z)) (T-and-left (not (eqb j (m .0))) (reaches (at s u (way k (m .0)) z)) (m .2))
           (reaches-grows (inside (way k (m .0)) z) (T-and-right (not (eqb j (m .0))) (reaches (at s u (way k (m .0)) z)) (m .2))))
 
-  bound7-grows : (k l : KindLine) → bound7 s u k l ⊆ bound7 s t k l
+  pub bound7-grows : (k l : KindLine) → bound7 (s .boards) u k l ⊆ bound7 (s .boards) t k l
   unfolding bound7
   bound7-grows k l =
       unless-grows (agree k l && eachBelow (width k) (λ i. has (at s u (way k i) (way l i)) 0))
@@ -409,7 +409,7 @@ module _ (s : Sheet) {u t : List ℕ} (i : Inside u t) where
       (λ i h. inside (way k i) (way l i) .member 0 (omega (arith, relations-pos))
       (each-at (width k) (λ i. has (at s u (way k i) (way l i)) 0) (T-and-right (agree k l) _ a) i h))))
 
-  bound7′-grows : (k l : KindLine) → bound7′ s u k l ⊆ bound7′ s t k l
+  pub bound7′-grows : (k l : KindLine) → bound7′ (s .boards) u k l ⊆ bound7′ (s .boards) t k l
   unfolding bound7′
   bound7′-grows k l =
       unless-grows (not (within (at s u (k .p) (l .p)) E)) (not (within (at s t (k .p) (l .p)) E)) E (escapes-grows E (inside (k .p) (l .p)))

@@ -35,6 +35,11 @@ module _ {X : Type 0} where
     pub walk-start : Walk 0 count
     walk-start = record { within = omega arith; done = []; onward = past-none (section line count ws) }
 
+    -- with no line passed yet
+    pub walk-none : walk-start .done ≡ []
+    unfolding walk-start
+    walk-none = refl
+
     module _ {at left : ℕ} (w : Walk at left) where
       -- a line that is refused
       pub walk-refused : (n : ℕ) → 0 < left → line (drop at ws) ≡ refused n → section line count ws ≡ refused n
@@ -61,6 +66,12 @@ module _ {X : Type 0} where
           go : (k : ℕ) → 0 < k → past (w .done) (section line k (drop at ws)) ≡ past (w .done ++ (f .line ∷ [])) (section line (k - 1) (f .rest))
           go zero h = let z : ⊥ = omega arith in absurd z
           go (suc k) h = let d : suc k - 1 ≡ k = omega arith in rw (e, d) (past-one (w .done) (f .line) (section line k (f .rest)))
+
+      -- with this line passed as well
+      pub walk-passed : (f : Front X) (h : 0 < left) (e : line (drop at ws) ≡ good f) (s : Suffix (drop at ws) (f .rest))
+          → walk-next f h e s .1 .done ≡ w .done ++ (f .line ∷ [])
+      unfolding walk-next
+      walk-passed f h e s = refl
 
       -- after the last line: words are left over, or the lines passed are all there are
       module _ (last : left ≤ 0) where

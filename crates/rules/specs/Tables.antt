@@ -5,8 +5,8 @@ use mathlib.Core.Bool.{Bool}
 use mathlib.Core.List.{List, [], _∷_}
 use Prim.Native.Nat.{ℕ, zero, suc, _+_, _*_, _<_}
 use lib.Dec.{eqb}
-use lib.ListN.{length, getD}
-use Rattle.rules.specs.Relations.{someOf, sets, _⊆_, size}
+use lib.ListN.{length, getD, set}
+use Rattle.rules.specs.Relations.{someOf, sets, meet, _⊆_, size}
 use Rattle.rules.specs.Descriptions.{Sheet}
 
 -- cell (p, q) of a table of v boards
@@ -21,6 +21,10 @@ at s t p q = cell (s .boards) t p q
 pub record Table (v : ℕ) (t : List ℕ) : Type 0 where
   pub cells : length t ≡ v * v
   pub small : (k : ℕ) → getD t k 0 < sets
+
+-- the table t with its cell k narrowed to what the set b has too
+abbrev pub narrowed : List ℕ → ℕ → ℕ → List ℕ
+narrowed t k b = let c = meet (getD t k 0) b in set t k c
 
 -- the table u is inside the table t: each cell of u lies within t's
 pub record Inside (u t : List ℕ) : Type 0 where

@@ -3,4 +3,5 @@ pub mod Evaluation
 pub mod Fronts
 pub mod Filled
 pub mod Wholes
+pub mod Described
 pub mod Determined

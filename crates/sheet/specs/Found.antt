@@ -39,6 +39,10 @@ abbrev pub kindFound : Reading (Front descriptions.KindLine) → KindFound
 kindFound (good f) = kind.Line (record { p = f .line .p; code = f .line .code; ways = length (f .line .ways) }) (length (f .rest))
 kindFound (refused n) = kind.Refused (refusal n)
 
+-- the numbers that a kind line begins with
+abbrev pub kindFront : List ℕ → KindLine
+kindFront ws = record { p = getD ws 0 0; code = getD ws 1 0; ways = getD ws 2 0 }
+
 -- whether a section is filled by its lines
 abbrev pub sectionFound : {X : Type 0} → Reading X → SectionFound
 sectionFound (good x) = section.Filled

@@ -1,7 +1,9 @@
 // The lines of a description, each read off the front of the words of its section.
 ghost use mathlib.Core.Path.{_≡_};
+ghost use Prim.Native.Nat.{_≤_, _<_};
+ghost use lib.ListN.{length, getD};
 ghost use Rattle.rules.specs.Descriptions.{boardsOnly, relationLine, kindLine};
-ghost use Rattle.sheet.specs.Found.{relationFound, kindFound};
+ghost use Rattle.sheet.specs.Found.{relationFound, kindFound, kindFront};
 use crate::expressions::Expression;
 use crate::refusals::NO_BOARD;
 use crate::refusals::NO_EXPRESSION;
@@ -35,7 +37,7 @@ pub enum KindFound {
 }
 
 // The words of a line before its expression or its ways.
-const HEAD: usize = 3;
+pub const HEAD: usize = 3;
 
 const MOST_WORDS: usize = 15;
 
@@ -109,4 +111,24 @@ pub fn kind_line(v: usize, words: &[u16]) -> KindFound
         },
         words.len() - end,
     )
+}
+
+// The board, the code and the number of ways of a kind line, from the words that it begins with.
+pub fn kind_front(words: &[u16]) -> KindLine
+    requires { ⌜ 3 ≤ length (now words) ⌝ }
+    ensures { λ k. ⌜ k ≡ kindFront (now (words .entry)) ⌝ }
+{
+    KindLine {
+        p: wide(words[0]),
+        code: words[1],
+        ways: wide(words[2]),
+    }
+}
+
+// The board in place i of a line's ways.
+pub fn way(ways: &[u16], i: usize) -> usize
+    requires { ⌜ i < length (now ways) ⌝ }
+    ensures { λ y. ⌜ y ≡ getD (now (ways .entry)) i 0 ⌝ }
+{
+    wide(ways[i])
 }

@@ -1,4 +1,5 @@
 -- The laws behind the functions of this crate.
 pub mod Cells
+pub mod Narrowings
 pub mod Freshness
 pub mod Determined

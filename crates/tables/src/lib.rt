@@ -1,7 +1,10 @@
 // Tables of sets, a byte for each pair of boards.
 ghost use mathlib.Core.Path.{_≡_};
-ghost use lib.ListN.{length, replicate};
+ghost use Prim.Native.Nat.{_<_};
+ghost use lib.ListN.{length, getD, replicate};
+ghost use Rattle.rules.specs.Relations.{sets};
 ghost use Rattle.rules.specs.Calls.{fresh};
+ghost use Rattle.passes.specs.Passes.{Narrowed};
 ghost use Rattle.answers.specs.Answers.{outcome};
 use answers::Answer;
 use sheet::header::MOST_BOARDS;
@@ -19,6 +22,20 @@ fn fill(table: &mut [u8], set: u8)
         table[i] = set;
         i += 1;
     }
+}
+
+// Narrows one cell to what the bound has too, and says how many relations that struck.
+pub fn narrow(cells: &mut [u8], k: usize, bound: u8) -> u32
+    requires { ⌜ (k < length (now cells)) × (getD (now cells) k 0 < sets) × (bound < sets) ⌝ }
+    ensures { λ n. ⌜ Narrowed (now (cells .entry)) k bound (now (cells .exit)) n ⌝ }
+{
+    let was = cells[k];
+    let is = relations::meet(was, bound);
+    if is == was {
+        return 0;
+    }
+    cells[k] = is;
+    relations::size(was) - relations::size(is)
 }
 
 // Makes the lent table one of v boards of which nothing is known yet: each cell holds all relations. Refuses a number of boards out of range with 1,

@@ -1,0 +1,99 @@
+-- `close` meets its contract: a description or a number of cells that is refused, or what the work on a copy comes to. Assumes nothing.
+use mathlib.Core.Path.{_≡_, sym, ap, _∙_}
+use Prim.Native.Nat.{ℕ, _*_, _≤_}
+use native.Mathlib.Omega.{arith}
+use lib.ListN.{length, take}
+use lib.Seq.{length-take-le}
+use Rattle.tables.proofs.Freshness.{square-small}
+use Rattle.sheet.proofs.Described.{described, undescribed}
+use Rattle.closing.proofs.Closings.{close-refused, close-no-table}
+use borrow.Author.Needs.{needs}
+use Rattle.closing.proofs.close.Statement.{statement}
+use Rattle.closing.proofs.close.Tie as tie
+
+description-requires : tie.Need-description-requires
+description-requires c κs = search needs
+
+enum-known-h : tie.Need-enum-known-h
+enum-known-h c = search needs
+
+enum-known-r : tie.Need-enum-known-r
+enum-known-r c = search needs
+
+returns : tie.Need-returns
+returns c =
+    let start = c .before .before .before .before .before .before in
+    close-refused (start .args .words .now) (start .args .table .now) _ (undescribed (start .args .words .now) _ (sym (c .before .r .given .1) ∙ c .before .before .before .description .ensures))
+
+mul-n : tie.Need-mul-n
+mul-n c =
+    let start = c .before .before .before .before .before .before .before in
+    let found = sym (c .before .before .h .given .1) ∙ c .before .before .before .before .description .ensures in
+    let d = described (start .args .words .now) _ found in
+    let b = c .before .before .h .given .0 .0 .boards in
+    let l : b * b ≤ 16 * 16 = square-small b (d .1 .few) in
+    record { fits = omega arith }
+
+returns-2 : tie.Need-returns-2
+returns-2 c =
+    let start = c .before .before .before .before .before .before .before .before in
+    let found = sym (c .before .before .before .h .given .1) ∙ c .before .before .before .before .before .description .ensures in
+    let d = described (start .args .words .now) _ found in
+    close-no-table (start .args .words .now) (start .args .table .now) (d .0) (d .1 .means)
+    (λ h. c .if1 .taken (h .cells ∙ ap (λ (n : ℕ). n * n) (sym (d .1 .boards))))
+
+room-requires : tie.Need-room-requires
+room-requires c κs = search needs
+
+array-borrow-prefix-cells : tie.Need-array-borrow-prefix-cells
+array-borrow-prefix-cells c =
+    let start = c .before .before .before .before .before .before .before .before .before .before in
+    let found = sym (c .before .before .before .before .before .h .given .1) ∙ c .before .before .before .before .before .before .before .description .ensures in
+    let d = described (start .args .words .now) _ found in
+    let b = c .before .before .before .before .before .h .given .0 .0 .boards in
+    let l : b * b ≤ 16 * 16 = square-small b (d .1 .few) in
+    omega (arith, c .before .room .ensures)
+
+cells-there : (c : tie.After-cells)
+    → length (take (c .before .before .before .before .before .before .h .given .0 .0 .boards * c .before .before .before .before .before .before .h .given .0 .0 .boards) (c .before .before .room .result))
+    ≡ c .before .before .before .before .before .before .h .given .0 .0 .boards * c .before .before .before .before .before .before .h .given .0 .0 .boards
+cells-there c =
+    let start = c .before .before .before .before .before .before .before .before .before .before .before in
+    let found = sym (c .before .before .before .before .before .before .h .given .1) ∙ c .before .before .before .before .before .before .before .before .description .ensures in
+    let d = described (start .args .words .now) _ found in
+    let b = c .before .before .before .before .before .before .h .given .0 .0 .boards in
+    let l : b * b ≤ 16 * 16 = square-small b (d .1 .few) in
+    length-take-le (b * b) (c .before .before .room .result) (omega (arith, c .before .before .room .ensures))
+
+slice-aggregate-close-by-copy : tie.Need-slice-aggregate-close-by-copy
+slice-aggregate-close-by-copy c = sym (cells-there c)
+
+close-by-copy-requires : tie.Need-close-by-copy-requires
+close-by-copy-requires c κs =
+    let start = c .before .before .before .before .before .before .before .before .before .before .before in
+    let found = sym (c .before .before .before .before .before .before .h .given .1) ∙ c .before .before .before .before .before .before .before .before .description .ensures in
+    let d = described (start .args .words .now) _ found in
+    (found, record { boards = d .1 .few; table = c .before .before .before .if1 .left; cells = cells-there c })
+
+same-length : tie.Need-same-length
+same-length c = search needs
+
+returns-3 : tie.Need-returns-3
+returns-3 c = search needs
+
+pub close-spec : {M : Type 1} → statement M
+close-spec =
+    tie.close
+    (tie.spec
+    description-requires
+    enum-known-h
+    enum-known-r
+    returns
+    mul-n
+    returns-2
+    room-requires
+    array-borrow-prefix-cells
+    slice-aggregate-close-by-copy
+    close-by-copy-requires
+    same-length
+    returns-3)

@@ -1,0 +1,30 @@
+// Rounds of the rules whose bounds depend on the table, until a round strikes nothing.
+ghost use Rattle.passes.specs.Passes.{Ready};
+ghost use Rattle.closing.specs.Lines.{HasKinds, WithKinds};
+ghost use Rattle.closing.specs.Sweeps.{moving, settling};
+use crate::lines::panels;
+use crate::lines::twins;
+use crate::sweeps::Swept;
+use crate::sweeps::sweep;
+use crate::sweeps::turn;
+
+// As many kind lines as this stand in the words.
+pub(crate) fn rounds(v: usize, count: usize, words: &[u16], cells: &mut [u8]) -> Swept
+    requires { ⌜ Ready v (now cells) × HasKinds v count (now words) ⌝ }
+    ensures { λ r. ⌜ WithKinds v count (now (words .entry)) (λ ks. settling v (moving v ks) (now (cells .entry)) (now (cells .exit)) r) ⌝ }
+{
+    let mut struck = 0;
+    loop {
+        let turned = turn(v, cells);
+        let fed = panels(v, count, words, cells);
+        let twinned = twins(v, count, words, cells);
+        let Swept::Struck(swept) = sweep(v, cells) else {
+            return Swept::Emptied;
+        };
+        let more = turned + fed + twinned + swept;
+        if more == 0 {
+            return Swept::Struck(struck);
+        }
+        struck += more;
+    }
+}

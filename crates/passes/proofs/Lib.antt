@@ -1,0 +1,2 @@
+-- The laws of passes.
+pub mod Passes

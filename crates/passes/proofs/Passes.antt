@@ -1,0 +1,206 @@
+-- The laws of passes, over any rules whose bounds grow with the table: one strike, one pass after another, and a pass over a list. Assumes nothing.
+use mathlib.Core.Path.{_≡_, refl, sym, ap, _∙_, subst}
+use mathlib.Core.List.{List, [], _∷_, _++_, flatMap, append-nil, append-assoc}
+use Prim.Native.Nat.{ℕ, suc, zero, _+_, _*_, _-_, _<_, _≤_}
+use native.Mathlib.Nat.{mul-le-mul}
+use native.Mathlib.Omega.{arith}
+use lib.Dec.{T}
+use lib.ListN.{length, getD}
+use Rattle.rules.specs.Relations.{relations, meet, size, _⊆_}
+use Rattle.rules.specs.Descriptions.{mostBoards}
+use Rattle.rules.specs.Tables.{cell, Table, narrowed, Inside, emptied, total, range, upTo}
+use Rattle.rules.specs.Closing.{Rule, Idle, lies}
+use Rattle.rules.proofs.Sets.{⊆-refl, ⊆-trans, meet-left, size-mono}
+use Rattle.rules.proofs.Members.{All, all-none, all-one, one-all, all-append, append-left, append-right}
+use Rattle.rules.proofs.Inside.{in-range, inside-refl, inside-trans, total-mono, total-tight, emptied-inside}
+use Rattle.rules.proofs.Strikes.{strike-table, strike-inside, strike-keeps, strike-within, strike-idle, strike-total}
+use Rattle.rules.proofs.Rules.{Grows}
+use Rattle.rules.proofs.Calls.{total-most}
+use Rattle.passes.specs.Passes.{Idles, Narrowed, Ready, Kept, Pass, Once, Clash}
+
+over-more : {X : Type 0} (f : X → List Rule) (done : List X) (x : X) → flatMap f done ++ f x ≡ flatMap f (done ++ (x ∷ []))
+unfolding flatMap
+over-more f [] x = sym (append-nil (f x))
+over-more f (y ∷ ys) x = append-assoc (f y) (flatMap f ys) (f x) ∙ ap (λ (rs : List Rule). f y ++ rs) (over-more f ys x)
+
+range-more : (n i : ℕ) → range i (suc n) ≡ range i n ++ ((i + n) ∷ [])
+range-more zero i = ap (λ (k : ℕ). k ∷ []) (omega arith)
+range-more (suc n) i =
+    let e : suc i + n ≡ i + suc n = omega arith in
+    ap (λ (ks : List ℕ). i ∷ ks) (range-more n (suc i) ∙ ap (λ (k : ℕ). range (suc i) n ++ (k ∷ [])) e)
+
+upTo-more : (i : ℕ) → upTo (i + 1) ≡ upTo i ++ (i ∷ [])
+upTo-more i =
+    let e : i + 1 ≡ suc i = omega arith in
+    let z : 0 + i ≡ i = omega arith in
+    ap upTo e ∙ range-more i 0 ∙ ap (λ (k : ℕ). range 0 i ++ (k ∷ [])) z
+
+module _ {v : ℕ} where
+  -- ---- what is kept
+
+  -- nothing struck, whatever the rules
+  pub kept-start : {rs : List Rule} {t : List ℕ} {a : ℕ} → Table v t → Kept v rs t a t a
+  kept-start {t = t} h = record { table = h; inside = inside-refl t; keeps = λ x i d. i; counted = refl }
+
+  pub kept-then : (rs : List Rule) {qs : List Rule} {t u w : List ℕ} {a b c : ℕ} → Kept v rs t a u b → Kept v qs u b w c → Kept v (rs ++ qs) t a w c
+  kept-then rs {qs} f g =
+      record {
+        table = g .table;
+        inside = inside-trans (g .inside) (f .inside);
+        keeps = λ x i d. g .keeps x (f .keeps x i (append-left (Idle v x) rs qs d)) (append-right (Idle v x) rs qs d);
+        counted = g .counted ∙ f .counted;
+      }
+
+  -- the same of a list that asks more
+  pub kept-as : {rs qs : List Rule} {t w : List ℕ} {a b : ℕ} → ((x : List ℕ) → Idles v qs x → Idles v rs x) → Kept v rs t a w b → Kept v qs t a w b
+  kept-as f k = record { table = k .table; inside = k .inside; keeps = λ x i d. k .keeps x i (f x d); counted = k .counted }
+
+  -- the same counted from elsewhere
+  pub kept-from : {rs : List Rule} {t w : List ℕ} {n : ℕ} (a : ℕ) → Kept v rs t 0 w n → Kept v rs t a w (a + n)
+  kept-from a k = let c = k .counted in record { table = k .table; inside = k .inside; keeps = k .keeps; counted = omega arith }
+
+  -- the count never falls, and where it stays the table does
+  pub kept-count : {rs : List Rule} {t w : List ℕ} {a b : ℕ} → Kept v rs t a w b → a ≤ b
+  kept-count k = let c = k .counted in omega (arith, total-mono (k .inside))
+
+  pub kept-tight : {rs : List Rule} {t w : List ℕ} {a b : ℕ} → Table v t → Kept v rs t a w b → b ≡ a → w ≡ t
+  kept-tight h k e = let c = k .counted in total-tight (k .table) h (k .inside) (omega arith)
+
+  -- One law for every rule: a strike by a bound that grows with the table loses no table in which the rule strikes nothing. The bound may be that of an
+  -- earlier table u.
+  pub kept-strike : (r : Rule) → Grows (r .bound) → (u : List ℕ) {t w : List ℕ} {a b n : ℕ} → Table v t → Inside t u → v * r .row + r .column < length t
+      → b ≡ r .bound u → Narrowed t (v * r .row + r .column) b w n → Kept v (r ∷ []) t a w (a + n)
+  kept-strike r g u {t} {w} {a} {b} {n} h i l e m =
+      let k = v * r .row + r .column in
+      let c : size (meet (getD t k 0) b) ≤ size (getD t k 0) = size-mono (meet-left (getD t k 0) b) in
+      let d : total (narrowed t k b) + size (getD t k 0) ≡ total t + size (meet (getD t k 0) b) = strike-total t k b l in
+      let o : n ≡ size (getD t k 0) - size (meet (getD t k 0) b) = m .struck in
+      subst (λ (y : List ℕ). Kept v (r ∷ []) t a y (a + n)) (sym (m .cells))
+      (record {
+        table = strike-table t k b h;
+        inside = strike-inside t k b;
+        keeps =
+            λ x j d.
+            strike-keeps t k b j (subst (λ (y : ℕ). getD x k 0 ⊆ y) (sym e) (⊆-trans (one-all (Idle v x) d) (g x u (inside-trans j i))));
+        counted = omega arith;
+      })
+
+  -- an empty cell in what is left is one in every table that was to be kept
+  pub kept-clash : {rs : List Rule} {t w : List ℕ} {a b : ℕ} → Kept v rs t a w b → T (emptied w) → Clash v rs t
+  kept-clash k e x h i d = emptied-inside h (k .keeps x i d) e
+
+  -- ---- passes
+
+  module _ (Q : List ℕ → Rule → Type 0) where
+    pub pass-none : {t : List ℕ} {a : ℕ} → Table v t → Pass Q v [] t a t a
+    pass-none {t} h = record { kept = kept-start h; quiet = λ e. all-none (Q t) }
+
+    pub pass-then : (rs : List Rule) {qs : List Rule} {t u w : List ℕ} {a b c : ℕ} → Table v t → Pass Q v rs t a u b → Pass Q v qs u b w c → Pass Q v (rs ++ qs) t a w c
+    pass-then rs {qs} {t} {u} {w} {a} {b} {c} h f g =
+        let l : a ≤ b = kept-count (f .kept) in
+        let m : b ≤ c = kept-count (g .kept) in
+        record {
+          kept = kept-then rs (f .kept) (g .kept);
+          quiet =
+              λ e.
+              all-append (Q t) rs (f .quiet (omega arith))
+              (subst (λ (x : List ℕ). All (Q x) qs) (kept-tight h (f .kept) (omega arith)) (g .quiet (omega arith)));
+        }
+
+    pub pass-start : {X : Type 0} (f : X → List Rule) {t : List ℕ} {a : ℕ} → Table v t → Pass Q v (flatMap f []) t a t a
+    unfolding flatMap
+    pass-start f h = pass-none h
+
+    pub pass-from : {rs : List Rule} {t w : List ℕ} {n : ℕ} (a : ℕ) → Pass Q v rs t 0 w n → Pass Q v rs t a w (a + n)
+    pass-from a k = record { kept = kept-from a (k .kept); quiet = λ e. k .quiet (omega arith) }
+
+    -- on to the next of a list, of a range
+    pub pass-more : {X : Type 0} (f : X → List Rule) (done : List X) (x : X) {t u w : List ℕ} {a b c : ℕ} → Table v t → Pass Q v (flatMap f done) t a u b
+        → Pass Q v (f x) u b w c → Pass Q v (flatMap f (done ++ (x ∷ []))) t a w c
+    pass-more f done x {t} {w = w} {a} {c = c} h k l =
+        subst (λ (rs : List Rule). Pass Q v rs t a w c) (over-more f done x) (pass-then (flatMap f done) h k l)
+
+    pub pass-next : (f : ℕ → List Rule) (i : ℕ) {t u w : List ℕ} {a b c : ℕ} → Table v t → Pass Q v (flatMap f (upTo i)) t a u b → Pass Q v (f i) u b w c
+        → Pass Q v (flatMap f (upTo (i + 1))) t a w c
+    pass-next f i {t} {w = w} {a} {c = c} h k l =
+        subst (λ (is : List ℕ). Pass Q v (flatMap f is) t a w c) (sym (upTo-more i)) (pass-more f (upTo i) i h k l)
+
+    -- a range that has been passed whole
+    pub pass-whole : (f : ℕ → List Rule) {i : ℕ} (n : ℕ) {t w : List ℕ} {a b : ℕ} → i ≤ n → n ≤ i → Pass Q v (flatMap f (upTo i)) t a w b
+        → Pass Q v (flatMap f (upTo n)) t a w b
+    pass-whole f {i} n {t} {w} {a} {b} h l k = let e : i ≡ n = omega arith in subst (λ (j : ℕ). Pass Q v (flatMap f (upTo j)) t a w b) e k
+
+    pub pass-strike : (r : Rule) → Grows (r .bound) → {t w : List ℕ} {a b n : ℕ} → Table v t → v * r .row + r .column < length t → b ≡ r .bound t
+        → Narrowed t (v * r .row + r .column) b w n → (w ≡ t → Idle v t r → Q t r) → Pass Q v (r ∷ []) t a w (a + n)
+    pass-strike r g {t} {w} {a} {b} {n} h l e m f =
+        let k = kept-strike r g t {a = a} h (inside-refl t) l e m in
+        record {
+          kept = k;
+          quiet =
+              λ z.
+              let y : w ≡ t = kept-tight h k z in
+              all-one (Q t)
+              (f y
+              (subst (λ (x : ℕ). getD t (v * r .row + r .column) 0 ⊆ x) e (strike-idle t (v * r .row + r .column) b (sym (m .cells) ∙ y))));
+        }
+
+  -- ---- passes by bounds that stay
+
+  pub once-none : {t : List ℕ} {a : ℕ} → Table v t → Once v [] t a t a
+  once-none h = record { kept = kept-start h; held = λ x i. all-none (Idle v x) }
+
+  pub once-then : (rs : List Rule) {qs : List Rule} {t u w : List ℕ} {a b c : ℕ} → Once v rs t a u b → Once v qs u b w c → Once v (rs ++ qs) t a w c
+  once-then rs f g =
+      record {
+        kept = kept-then rs (f .kept) (g .kept);
+        held = λ x i. all-append (Idle v x) rs (f .held x (inside-trans i (g .kept .inside))) (g .held x i);
+      }
+
+  pub once-from : {rs : List Rule} {t w : List ℕ} {n : ℕ} (a : ℕ) → Once v rs t 0 w n → Once v rs t a w (a + n)
+  once-from a k = record { kept = kept-from a (k .kept); held = k .held }
+
+  pub once-start : {X : Type 0} (f : X → List Rule) {t : List ℕ} {a : ℕ} → Table v t → Once v (flatMap f []) t a t a
+  unfolding flatMap
+  once-start f h = once-none h
+
+  pub once-more : {X : Type 0} (f : X → List Rule) (done : List X) (x : X) {t u w : List ℕ} {a b c : ℕ} → Once v (flatMap f done) t a u b
+      → Once v (f x) u b w c → Once v (flatMap f (done ++ (x ∷ []))) t a w c
+  once-more f done x {t} {w = w} {a} {c = c} k l =
+      subst (λ (rs : List Rule). Once v rs t a w c) (over-more f done x) (once-then (flatMap f done) k l)
+
+  pub once-next : (f : ℕ → List Rule) (i : ℕ) {t u w : List ℕ} {a b c : ℕ} → Once v (flatMap f (upTo i)) t a u b → Once v (f i) u b w c
+      → Once v (flatMap f (upTo (i + 1))) t a w c
+  once-next f i {t} {w = w} {a} {c = c} k l =
+      subst (λ (is : List ℕ). Once v (flatMap f is) t a w c) (sym (upTo-more i)) (once-more f (upTo i) i k l)
+
+  pub once-whole : (f : ℕ → List Rule) {i : ℕ} (n : ℕ) {t w : List ℕ} {a b : ℕ} → i ≤ n → n ≤ i → Once v (flatMap f (upTo i)) t a w b
+      → Once v (flatMap f (upTo n)) t a w b
+  once-whole f {i} n {t} {w} {a} {b} h l k = let e : i ≡ n = omega arith in subst (λ (j : ℕ). Once v (flatMap f (upTo j)) t a w b) e k
+
+  pub once-strike : (p q b : ℕ) {t w : List ℕ} {a n : ℕ} → Table v t → v * p + q < length t → Narrowed t (v * p + q) b w n
+      → Once v (lies p q (λ t. b)) t a w (a + n)
+  once-strike p q b {t} {w} {a} {n} h l m =
+      record {
+        kept = kept-strike (record { row = p; column = q; bound = λ t. b }) (λ u t i. ⊆-refl b) t h (inside-refl t) l refl m;
+        held =
+            λ x i.
+            all-one (Idle v x) (⊆-trans (i .each (v * p + q)) (subst (λ (y : List ℕ). getD y (v * p + q) 0 ⊆ b) (sym (m .cells)) (strike-within t (v * p + q) b)));
+      }
+
+  -- ---- a site that is not too large: its places, its counts
+
+  pub place-few : {p q : ℕ} → v ≤ mostBoards → p < v → q < v → v * p + q < 256
+  place-few {p} {q} h l m = omega (arith, in-range v p q l m, mul-le-mul h h)
+
+  pub ready-place : {t : List ℕ} {p q : ℕ} → Ready v t → p < v → q < v → v * p + q < length t
+  ready-place {t} {p} {q} r l m = subst (λ (n : ℕ). v * p + q < n) (sym (r .table .cells)) (in-range v p q l m)
+
+  pub ready-kept : {rs : List Rule} {t w : List ℕ} {a b : ℕ} → Ready v t → Kept v rs t a w b → Ready v w
+  ready-kept r k = record { boards = r .boards; table = k .table }
+
+  pub kept-few : {rs : List Rule} {t w : List ℕ} {a b : ℕ} → Ready v t → Kept v rs t a w b → b ≤ a + 1024
+  unfolding relations
+  kept-few {t = t} r k =
+      let c = k .counted in
+      let d : length t ≡ v * v = r .table .cells in
+      omega (arith, total-most t, mul-le-mul (r .boards) (r .boards))

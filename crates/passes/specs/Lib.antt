@@ -1,0 +1,2 @@
+-- What strikes make of a table.
+pub mod Passes

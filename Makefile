@@ -1,5 +1,10 @@
 # make test: everything that is claimed, from nothing. The last line is the verdict, 'N passed, 0 failed'.
-.PHONY: test
+.PHONY: test bench
 
 test:
 	@rt ci
+
+# make bench: how long closings take beside a plain C version of the same method, and that both answer the same.
+bench:
+	@rt staticlib talung
+	@sh bench/run.sh

@@ -130,32 +130,30 @@ module _ (s : Sheet) {v : ℕ} (boards : v ≡ s .boards) {t t₁ t₂ u : List 
 
 module _ (ws t : List ℕ) where
   -- the outcome under a good description: by whether the largest closed table has an empty cell
-  by-cells : Sheet → Bool → Outcome
+  abbrev pub by-cells : Sheet → Bool → Outcome
   by-cells s b = elim b [ true ↦ refuse 7 0 t | false ↦ succeed (strikes t (closing s t)) (closing s t) ]
 
   after : Sheet → Outcome
   after s = by-cells s (emptied (closing s t))
 
   pub close-refused : (n : ℕ) → read ws ≡ refused n → refuse n 0 t ≡ close ws t
-  unfolding close after by-cells
+  unfolding close after
   close-refused n e = sym (given-refused ws t after n e)
 
   module _ (s : Sheet) (means : read ws ≡ good s) where
     pub close-no-table : (Table (s .boards) t → ⊥) → refuse 6 0 t ≡ close ws t
-    unfolding close after by-cells
+    unfolding close after
     close-no-table f = sym (given-no-table ws t after s means f)
 
     module _ (table : Table (s .boards) t) where
-      close-good : close ws t ≡ by-cells s (emptied (closing s t))
-      unfolding close after by-cells
+      pub close-good : close ws t ≡ by-cells s (emptied (closing s t))
+      unfolding close after
       close-good = given-good ws t after s means table
 
       close-contradictory : T (emptied (closing s t)) → refuse 7 0 t ≡ close ws t
-      unfolding by-cells
       close-contradictory e = sym (close-good ∙ ap (by-cells s) (T-true {b = emptied (closing s t)} e))
 
       close-closed : (w : List ℕ) (n : ℕ) → Closes s t w n → succeed n w ≡ close ws t
-      unfolding by-cells
       close-closed w n k =
           let e : w ≡ closing s t = largest-unique (k .largest) (closing-largest s t table) in
           let c : n + total w ≡ total t = k .counted in

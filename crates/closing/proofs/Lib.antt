@@ -7,3 +7,6 @@ pub mod Passing
 pub mod Spreading
 pub mod Feeding
 pub mod Copies
+pub mod Demand3
+pub mod Refuted
+pub mod Determined

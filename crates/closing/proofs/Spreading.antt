@@ -11,23 +11,10 @@ use Rattle.rules.specs.Descriptions.{KindLine}
 use Rattle.rules.specs.Tables.{cell, Table, upTo}
 use Rattle.rules.specs.Closing.{unless, Rule, Idle, lies, only, waysOf, rule5}
 use Rattle.rules.proofs.Members.{all-one, one-all, all-append, append-left, append-right}
-use Rattle.rules.proofs.Inside.{in-range}
 use Rattle.rules.proofs.Rules.{all-only, only-all, all-ways, ways-all, unless-in, unless-out}
-use Rattle.passes.specs.Passes.{Idles, Narrowed, Ready, Once}
-use Rattle.passes.proofs.Passes.{kept-as, once-none, once-strike, once-then, once-next}
-use Rattle.tables.proofs.Freshness.{square-small}
+use Rattle.passes.specs.Passes.{Idles, Narrowed, Once}
+use Rattle.passes.proofs.Passes.{kept-as, once-strike, once-then, once-next, once-whole}
 use Rattle.closing.specs.Panels.{panel, apart}
-
--- cell (p, q) is one of the table's, and these are few
-abbrev pub InTable : ℕ → List ℕ → ℕ → ℕ → Type 0
-InTable v t p q = (v * p + q < length t) × (length t ≤ 256)
-
-pub in-table : {v : ℕ} {t : List ℕ} (p q : ℕ) → Ready v t → p < v → q < v → InTable v t p q
-in-table {v} {t} p q r h k =
-    let c : length t ≡ v * v = r .table .cells in
-    let l : v * v ≤ 16 * 16 = square-small v (r .boards) in
-    let m : v * p + q < v * v = in-range v p q h k in
-    omega arith
 
 -- what two places allow is a set
 pub apart-small : (i j : ℕ) → apart i j < sets
@@ -44,21 +31,11 @@ apart-small i j = go (eqb i j)
 abbrev pub under : ℕ → List ℕ → ℕ → List Rule
 under p ws i = lies p (getD ws i 0) (λ t. A)
 
-abbrev beside : List ℕ → ℕ → ℕ → List Rule
+abbrev pub beside : List ℕ → ℕ → ℕ → List Rule
 beside ws i j = lies (getD ws i 0) (getD ws j 0) (λ t. apart i j)
 
-abbrev around : ℕ → List ℕ → ℕ → List Rule
+abbrev pub around : ℕ → List ℕ → ℕ → List Rule
 around p ws i = under p ws i ++ flatMap (beside ws i) (upTo (length ws))
-
--- the cells of way i with the ways before j were narrowed
-pub record Beside (v : ℕ) (ws : List ℕ) (i j : ℕ) (t : List ℕ) (a : ℕ) (w : List ℕ) (b : ℕ) : Type 0 where
-  pub within : j ≤ length ws
-  pub once : Once v (flatMap (beside ws i) (upTo j)) t a w b
-
--- the cells of the ways before i with their panel and all ways were narrowed
-pub record Spread (v p : ℕ) (ws : List ℕ) (i : ℕ) (t : List ℕ) (a : ℕ) (w : List ℕ) (b : ℕ) : Type 0 where
-  pub within : i ≤ length ws
-  pub once : Once v (flatMap (around p ws) (upTo i)) t a w b
 
 module _ {v : ℕ} where
   -- a cell narrowed, by the names that the code has for its boards and its bound
@@ -69,36 +46,19 @@ module _ {v : ℕ} where
       (subst (λ (z : ℕ). Once v (lies x z (λ t. b)) t a w (a + n)) e
       (subst (λ (z : ℕ). Once v (lies x y (λ t. z)) t a w (a + n)) f (once-strike x y m h l c)))
 
-  module _ {ws : List ℕ} where
-    pub beside-none : {i : ℕ} {t : List ℕ} {a : ℕ} → Table v t → Beside v ws i 0 t a t a
-    unfolding flatMap
-    beside-none h = record { within = omega arith; once = once-none h }
+  pub beside-next : (ws : List ℕ) (i j : ℕ) {x y m : ℕ} {t u w : List ℕ} {a b n : ℕ} → Once v (flatMap (beside ws i) (upTo j)) t a u b
+      → x ≡ getD ws i 0 → y ≡ getD ws j 0 → m ≡ apart i j → v * x + y < length u → Narrowed u (v * x + y) m w n
+      → Once v (flatMap (beside ws i) (upTo (j + 1))) t a w (b + n)
+  beside-next ws i j s d e f l c = once-next (beside ws i) j s (narrow-once d e f (s .kept .table) l c)
 
-    pub beside-next : {i j x y m : ℕ} {t u w : List ℕ} {a b n : ℕ} → Beside v ws i j t a u b → j < length ws → x ≡ getD ws i 0 → y ≡ getD ws j 0
-        → m ≡ apart i j → v * x + y < length u → Narrowed u (v * x + y) m w n → Beside v ws i (j + 1) t a w (b + n)
-    beside-next {i} {j} s h d e f l c =
-        record { within = omega arith; once = once-next (beside ws i) j (s .once) (narrow-once d e f (s .once .kept .table) l c) }
+  module _ (p : ℕ) (ws : List ℕ) (i : ℕ) where
+    pub under-first : {x : ℕ} {t w : List ℕ} {a n : ℕ} → Table v t → x ≡ getD ws i 0 → v * p + x < length t → Narrowed t (v * p + x) A w n
+        → Once v (under p ws i) t a w (a + n)
+    under-first h e l c = narrow-once refl e refl h l c
 
-    module _ {p : ℕ} where
-      pub spread-none : {t : List ℕ} {a : ℕ} → Table v t → Spread v p ws 0 t a t a
-      unfolding flatMap
-      spread-none h = record { within = omega arith; once = once-none h }
-
-      pub spread-first : {i x : ℕ} {t u w : List ℕ} {a b n : ℕ} → Spread v p ws i t a u b → x ≡ getD ws i 0 → v * p + x < length u
-          → Narrowed u (v * p + x) A w n → Once v (under p ws i) u b w (b + n)
-      spread-first s e l c = narrow-once refl e refl (s .once .kept .table) l c
-
-      pub spread-next : {i j : ℕ} {t u x w : List ℕ} {a b c d : ℕ} → Spread v p ws i t a u b → i < length ws → Once v (under p ws i) u b x c
-          → Beside v ws i j x c w d → length ws ≤ j → Spread v p ws (i + 1) t a w d
-      spread-next {i} {j} {x = x} {w} {c = c} {d} s h f n l =
-          let m : j ≤ length ws = n .within in
-          let e : j ≡ length ws = omega arith in
-          record {
-            within = omega arith;
-            once =
-                once-next (around p ws) i (s .once)
-                (once-then (under p ws i) f (subst (λ (k : ℕ). Once v (flatMap (beside ws i) (upTo k)) x c w d) e (n .once)));
-          }
+    pub around-next : {j : ℕ} {t u x w : List ℕ} {a b c d : ℕ} → Once v (flatMap (around p ws) (upTo i)) t a u b → Once v (under p ws i) u b x c
+        → j ≤ length ws → length ws ≤ j → Once v (flatMap (beside ws i) (upTo j)) x c w d → Once v (flatMap (around p ws) (upTo (i + 1))) t a w d
+    around-next s f h l n = once-next (around p ws) i s (once-then (under p ws i) f (once-whole (beside ws i) (length ws) h l n))
 
 -- ---- the walk is rule 5
 
@@ -143,9 +103,8 @@ module _ (v p : ℕ) (ws x : List ℕ) where
           (only-all (Idle v x) (not (eqb i j)) (lies (getD ws i 0) (getD ws j 0) (λ t. S))
           (ways-all (Idle v x) line (sides i) (append-right (Idle v x) (under p ws i) (waysOf line (sides i)) g) j m) d)))))
 
-pub spread-all : {v p : ℕ} {ws : List ℕ} {i : ℕ} {t w : List ℕ} {a b : ℕ} → Spread v p ws i t a w b → length ws ≤ i → Once v (rule5 (panel p 0 ws)) t a w b
-spread-all {v} {p} {ws} {i} {t} {w} {a} {b} s l =
-    let m : i ≤ length ws = s .within in
-    let e : i ≡ length ws = omega arith in
-    let o = subst (λ (k : ℕ). Once v (flatMap (around p ws) (upTo k)) t a w b) e (s .once) in
+pub around-all : {v : ℕ} (p : ℕ) (ws : List ℕ) {i : ℕ} {t w : List ℕ} {a b : ℕ} → i ≤ length ws → length ws ≤ i
+    → Once v (flatMap (around p ws) (upTo i)) t a w b → Once v (rule5 (panel p 0 ws)) t a w b
+around-all {v} p ws h l s =
+    let o = once-whole (around p ws) (length ws) h l s in
     record { kept = kept-as (rule-walk v p ws) (o .kept); held = λ x n. walk-rule v p ws x (o .held x n) }

@@ -3,3 +3,4 @@ pub mod Sweeps
 pub mod Panels
 pub mod Lines
 pub mod Closes
+pub mod Runs

@@ -1,14 +1,13 @@
 -- Kind lines as the code has them: a board, a code and a lent run of ways. Assumes nothing.
-use mathlib.Core.Bool.{Bool, true, false}
-use mathlib.Core.List.{List}
+use mathlib.Core.Bool.{Bool}
+use mathlib.Core.List.{List, flatMap}
 use Prim.Native.Nat.{ℕ, _≤_, _<_}
 use lib.Dec.{T, eqb}
 use lib.ListN.{length, getD}
-use Rattle.rules.specs.Relations.{eachBelow, same, E, S, full, has}
+use Rattle.rules.specs.Relations.{eachBelow, same, E, S, has}
 use Rattle.rules.specs.Descriptions.{KindLine}
 use Rattle.rules.specs.Tables.{cell, upTo}
 use Rattle.rules.specs.Closing.{unless, reaches, Rule, lies}
-use mathlib.Core.List.{flatMap}
 
 abbrev pub panel : ℕ → ℕ → List ℕ → KindLine
 panel p c ws = record { p = p; code = c; ways = ws }

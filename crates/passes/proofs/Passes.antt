@@ -1,22 +1,22 @@
 -- The laws of passes, over any rules whose bounds grow with the table: one strike, one pass after another, and a pass over a list. Assumes nothing.
 use mathlib.Core.Path.{_≡_, refl, sym, ap, _∙_, subst}
 use mathlib.Core.List.{List, [], _∷_, _++_, flatMap, append-nil, append-assoc}
-use Prim.Native.Nat.{ℕ, suc, zero, _+_, _*_, _-_, _<_, _≤_}
-use native.Mathlib.Nat.{mul-le-mul}
+use Prim.Native.Nat.{ℕ, suc, zero, _+_, _*_, _^_, _-_, _<_, _≤_}
+use native.Mathlib.Nat.{zero-add, mul-le-mul}
 use native.Mathlib.Omega.{arith}
-use lib.Dec.{T}
+use lib.Dec.{T, T-not}
 use lib.ListN.{length, getD}
 use Rattle.rules.specs.Relations.{relations, meet, size, _⊆_}
 use Rattle.rules.specs.Descriptions.{mostBoards}
-use Rattle.rules.specs.Tables.{cell, Table, narrowed, Inside, emptied, total, range, upTo}
+use Rattle.rules.specs.Tables.{Table, narrowed, Inside, emptied, total, range, upTo}
 use Rattle.rules.specs.Closing.{Rule, Idle, lies}
-use Rattle.rules.proofs.Sets.{⊆-refl, ⊆-trans, meet-left, size-mono}
+use Rattle.rules.proofs.Sets.{⊆-refl, ⊆-trans, meet-left, size-mono, ⊆-one}
 use Rattle.rules.proofs.Members.{All, all-none, all-one, one-all, all-append, append-left, append-right}
-use Rattle.rules.proofs.Inside.{in-range, inside-refl, inside-trans, total-mono, total-tight, emptied-inside}
+use Rattle.rules.proofs.Inside.{in-range, inside-refl, inside-trans, total-mono, total-tight, emptied-in, emptied-inside}
 use Rattle.rules.proofs.Strikes.{strike-table, strike-inside, strike-keeps, strike-within, strike-idle, strike-total}
 use Rattle.rules.proofs.Rules.{Grows}
 use Rattle.rules.proofs.Calls.{total-most}
-use Rattle.passes.specs.Passes.{Idles, Narrowed, Ready, Kept, Pass, Once, Clash}
+use Rattle.passes.specs.Passes.{Filled, Idles, Narrowed, Ready, Kept, Pass, Once, Clash}
 
 over-more : {X : Type 0} (f : X → List Rule) (done : List X) (x : X) → flatMap f done ++ f x ≡ flatMap f (done ++ (x ∷ []))
 unfolding flatMap
@@ -34,6 +34,10 @@ upTo-more i =
     let e : i + 1 ≡ suc i = omega arith in
     let z : 0 + i ≡ i = omega arith in
     ap upTo e ∙ range-more i 0 ∙ ap (λ (k : ℕ). range 0 i ++ (k ∷ [])) z
+
+-- no cell of a filled table is empty: one that lies within a single relation is that relation
+pub filled-one : {v : ℕ} (r : ℕ) (t : List ℕ) (k : ℕ) → r < relations → Table v t → Filled t → k < length t → getD t k 0 ⊆ 2 ^ r → getD t k 0 ≡ 2 ^ r
+filled-one r t k l h f i s = ⊆-one r (h .small k) l s (λ e. T-not (emptied t) f (emptied-in t k i e))
 
 module _ {v : ℕ} where
   -- ---- what is kept
@@ -60,7 +64,7 @@ module _ {v : ℕ} where
   kept-from a k = let c = k .counted in record { table = k .table; inside = k .inside; keeps = k .keeps; counted = omega arith }
 
   -- the count never falls, and where it stays the table does
-  pub kept-count : {rs : List Rule} {t w : List ℕ} {a b : ℕ} → Kept v rs t a w b → a ≤ b
+  kept-count : {rs : List Rule} {t w : List ℕ} {a b : ℕ} → Kept v rs t a w b → a ≤ b
   kept-count k = let c = k .counted in omega (arith, total-mono (k .inside))
 
   pub kept-tight : {rs : List Rule} {t w : List ℕ} {a b : ℕ} → Table v t → Kept v rs t a w b → b ≡ a → w ≡ t
@@ -92,8 +96,9 @@ module _ {v : ℕ} where
   -- ---- passes
 
   module _ (Q : List ℕ → Rule → Type 0) where
-    pub pass-none : {t : List ℕ} {a : ℕ} → Table v t → Pass Q v [] t a t a
-    pass-none {t} h = record { kept = kept-start h; quiet = λ e. all-none (Q t) }
+    -- a table in which Q holds of each rule may stay as it is
+    pub pass-still : {rs : List Rule} {t : List ℕ} {a : ℕ} → Table v t → All (Q t) rs → Pass Q v rs t a t a
+    pass-still h f = record { kept = kept-start h; quiet = λ e. f }
 
     pub pass-then : (rs : List Rule) {qs : List Rule} {t u w : List ℕ} {a b c : ℕ} → Table v t → Pass Q v rs t a u b → Pass Q v qs u b w c → Pass Q v (rs ++ qs) t a w c
     pass-then rs {qs} {t} {u} {w} {a} {b} {c} h f g =
@@ -109,7 +114,7 @@ module _ {v : ℕ} where
 
     pub pass-start : {X : Type 0} (f : X → List Rule) {t : List ℕ} {a : ℕ} → Table v t → Pass Q v (flatMap f []) t a t a
     unfolding flatMap
-    pass-start f h = pass-none h
+    pass-start f {t} h = pass-still h (all-none (Q t))
 
     pub pass-from : {rs : List Rule} {t w : List ℕ} {n : ℕ} (a : ℕ) → Pass Q v rs t 0 w n → Pass Q v rs t a w (a + n)
     pass-from a k = record { kept = kept-from a (k .kept); quiet = λ e. k .quiet (omega arith) }
@@ -130,24 +135,27 @@ module _ {v : ℕ} where
         → Pass Q v (flatMap f (upTo n)) t a w b
     pass-whole f {i} n {t} {w} {a} {b} h l k = let e : i ≡ n = omega arith in subst (λ (j : ℕ). Pass Q v (flatMap f (upTo j)) t a w b) e k
 
-    pub pass-strike : (r : Rule) → Grows (r .bound) → {t w : List ℕ} {a b n : ℕ} → Table v t → v * r .row + r .column < length t → b ≡ r .bound t
-        → Narrowed t (v * r .row + r .column) b w n → (w ≡ t → Idle v t r → Q t r) → Pass Q v (r ∷ []) t a w (a + n)
-    pass-strike r g {t} {w} {a} {b} {n} h l e m f =
-        let k = kept-strike r g t {a = a} h (inside-refl t) l e m in
+    -- a strike by one of some rules is a pass by them, if Q holds of each where it changes nothing
+    pub pass-struck : (rs : List Rule) (r : Rule) → ((x : List ℕ) → Idles v rs x → Idle v x r) → Grows (r .bound) → {t w : List ℕ} {b n : ℕ} → Table v t
+        → v * r .row + r .column < length t → b ≡ r .bound t → Narrowed t (v * r .row + r .column) b w n → (w ≡ t → Idle v t r → All (Q t) rs)
+        → Pass Q v rs t 0 w n
+    pass-struck rs r d g {t} {w} {b} {n} h l e m f =
+        let k : Kept v (r ∷ []) t 0 w n =
+        subst (λ (c : ℕ). Kept v (r ∷ []) t 0 w c) (zero-add n) (kept-strike r g t h (inside-refl t) l e m) in
         record {
-          kept = k;
+          kept = kept-as (λ x i. all-one (Idle v x) (d x i)) k;
           quiet =
               λ z.
               let y : w ≡ t = kept-tight h k z in
-              all-one (Q t)
-              (f y
-              (subst (λ (x : ℕ). getD t (v * r .row + r .column) 0 ⊆ x) e (strike-idle t (v * r .row + r .column) b (sym (m .cells) ∙ y))));
+              f y (subst (λ (x : ℕ). getD t (v * r .row + r .column) 0 ⊆ x) e (strike-idle t (v * r .row + r .column) b (sym (m .cells) ∙ y)));
         }
 
-  -- ---- passes by bounds that stay
+    pub pass-strike : (r : Rule) → Grows (r .bound) → {t w : List ℕ} {a b n : ℕ} → Table v t → v * r .row + r .column < length t → b ≡ r .bound t
+        → Narrowed t (v * r .row + r .column) b w n → (w ≡ t → Idle v t r → Q t r) → Pass Q v (r ∷ []) t a w (a + n)
+    pass-strike r g {t} {a = a} h l e m f =
+        pass-from a (pass-struck (r ∷ []) r (λ x d. one-all (Idle v x) d) g h l e m (λ y d. all-one (Q t) (f y d)))
 
-  pub once-none : {t : List ℕ} {a : ℕ} → Table v t → Once v [] t a t a
-  once-none h = record { kept = kept-start h; held = λ x i. all-none (Idle v x) }
+  -- ---- passes by bounds that stay
 
   pub once-then : (rs : List Rule) {qs : List Rule} {t u w : List ℕ} {a b c : ℕ} → Once v rs t a u b → Once v qs u b w c → Once v (rs ++ qs) t a w c
   once-then rs f g =
@@ -161,7 +169,7 @@ module _ {v : ℕ} where
 
   pub once-start : {X : Type 0} (f : X → List Rule) {t : List ℕ} {a : ℕ} → Table v t → Once v (flatMap f []) t a t a
   unfolding flatMap
-  once-start f h = once-none h
+  once-start f h = record { kept = kept-start h; held = λ x i. all-none (Idle v x) }
 
   pub once-more : {X : Type 0} (f : X → List Rule) (done : List X) (x : X) {t u w : List ℕ} {a b c : ℕ} → Once v (flatMap f done) t a u b
       → Once v (f x) u b w c → Once v (flatMap f (done ++ (x ∷ []))) t a w c

@@ -1,7 +1,12 @@
 -- Any two answers that a contract of this crate permits are equal. Assumes nothing.
-use mathlib.Core.Path.{_≡_}
-use Prim.Native.Nat.{ℕ}
-use Rattle.rules.specs.Relations.{meet, join, complement, converse, size, composed, compose}
+use mathlib.Core.Path.{_≡_, sym, _∙_, subst}
+use mathlib.Core.List.{List}
+use Prim.Native.Nat.{ℕ, _+_, _*_, _/_, _%_, _<_}
+use native.Mathlib.Omega.{arith}
+use lib.ListN.{length, getD}
+use lib.Seq.{ext-getD}
+use Rattle.rules.specs.Relations.{relations, sets, meet, join, complement, converse, size, composed, compose}
+use Rattle.relations.specs.Composing.{Composes}
 
 module _ (x y z w : ℕ) where
   pub composed-determined : z ≡ composed x y → w ≡ composed x y → z ≡ w
@@ -25,3 +30,15 @@ module _ (x z w : ℕ) where
 
   pub size-determined : z ≡ size x → w ≡ size x → z ≡ w
   size-determined g h = cc
+
+-- two tables of compositions are equal
+pub composition-table-determined : (t u : List ℕ) → Composes t → Composes u → t ≡ u
+unfolding relations
+composition-table-determined t u a b =
+    ext-getD 0 t u (a .cells ∙ sym (b .cells))
+    (λ k h.
+    let c : length t ≡ sets * sets = a .cells in
+    let x : k / sets < sets = omega arith in
+    let y : k % sets < sets = omega arith in
+    let e : sets * (k / sets) + k % sets ≡ k = omega arith in
+    subst (λ (n : ℕ). getD t n 0 ≡ getD u n 0) e (a .entry (k / sets) (k % sets) x y ∙ sym (b .entry (k / sets) (k % sets) x y)))

@@ -3,18 +3,21 @@ use mathlib.Core.Path.{_≡_, sym, ap, _∙_, subst}
 use mathlib.Core.Bool.{Bool, not}
 use mathlib.Core.Logic.{_⊎_, inl, inr, ⊎-elim, _↔_}
 use mathlib.Core.List.{List, List·Memᴰ}
-use Prim.Native.Nat.{ℕ, _^_, _<_}
+use Prim.Native.Nat.{ℕ, _*_, _^_, _<_}
 use native.Mathlib.Omega.{arith}
+use lib.Pow.{pow-pos}
 use lib.Dec.{T, eqb, eqb→eq, T-not, not-T}
+use lib.ListN.{length, getD}
 use Rattle.rules.specs.Relations.{someBelow, relations, same, above, side, E, A, has, Lacks, join, _⊆_}
 use Rattle.rules.specs.Descriptions.{KindLine, Sheet, WellFormed}
-use Rattle.rules.specs.Tables.{Table, Inside, at}
+use Rattle.rules.specs.Tables.{Table, Inside, at, emptied}
 use Rattle.rules.specs.Arrangements.{way, width, Alike, Arrangement}
 use Rattle.rules.specs.Closed.{Misses, Closed, Largest}
 use Rattle.rules.specs.Closing.{reaches, agree}
 use Rattle.rules.proofs.Tests.{T-decide, T-not-not, or-T-left, or-T-right, T-or, some-in, some-out, T-differ}
 use Rattle.rules.proofs.Digits.{has-single, single-has}
 use Rattle.rules.proofs.Sets.{⊆-eq, single-⊆, join-in}
+use Rattle.rules.proofs.Inside.{each-place, emptied-out}
 use Rattle.rules.proofs.Rules.{relations-pos, not-misses, agree-alike, alike-agree}
 
 -- ---- single relations
@@ -179,3 +182,18 @@ arrangement-iff f t = (λ a. (a .table, arrangement-closed f a, a .single), λ h
 -- closing loses no arrangement
 pub arrangement-kept : {s : Sheet} → WellFormed s → {t u w : List ℕ} → Largest s t u → Arrangement s w → Inside w t → Inside w u
 arrangement-kept f {w = w} l a i = l .largest w (a .table) (arrangement-closed f a) i
+
+-- ---- the cells of an arrangement
+
+pub arrangement-one : {s : Sheet} {u : List ℕ} → Arrangement s u → (k : ℕ) → k < s .boards * s .boards → One (getD u k 0)
+arrangement-one {s} {u} a k h = each-place (λ k. One (getD u k 0)) (a .table) (a .single) k (subst (λ (n : ℕ). k < n) (sym (a .table .cells)) h)
+
+-- none is empty
+pub arrangement-whole : {s : Sheet} {u : List ℕ} → Arrangement s u → T (emptied u) → ⊥
+arrangement-whole {u = u} a e = from (emptied-out u e)
+  where
+    from : (k : ℕ) × (k < length u) × (getD u k 0 ≡ 0) → ⊥
+    from m =
+        let o = arrangement-one a (m .0) (subst (λ (n : ℕ). m .0 < n) (a .table .cells) (m .1)) in
+        let z : 2 ^ o .0 ≡ 0 = sym (o .2) ∙ m .2 in
+        omega (arith, pow-pos (o .0))

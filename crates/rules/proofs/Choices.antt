@@ -6,7 +6,6 @@ use mathlib.Core.Logic.{_⊎_, inl, inr, ⊎-elim}
 use mathlib.Core.List.{List, [], _∷_, List·Memᴰ, List·Memᴰ·head, List·Memᴰ·tail, List·Memᴰ·not-nil, List·Memᴰ·cases-cons}
 use Prim.Native.Nat.{ℕ, suc, _+_, _*_, _^_, _≤_, _<_}
 use native.Mathlib.Omega.{arith}
-use lib.Pow.{pow-pos}
 use lib.Dec.{T, ltb, ltb→lt, lt→ltb, nltb→le, T-not, not-T}
 use lib.ListN.{length, getD, set, length-set}
 use Rattle.rules.specs.Relations.{relations, E, has, size, _⊆_, converse, opposite}
@@ -20,11 +19,11 @@ use Rattle.rules.proofs.Digits.{has-single, has-small}
 use Rattle.rules.proofs.Sets.{⊆-refl, ⊆-trans, ⊆-one, ⊆-single, size-tight, size-single, size-one, size-pos, some-member}
 use Rattle.rules.proofs.Composition.{opposite-small, converse-single}
 use Rattle.rules.proofs.Members.{All, all-none, all-one, over-all, all-over, upTo-in, upTo-out}
-use Rattle.rules.proofs.Inside.{each-place, in-range, inside-refl, inside-trans, emptied-in, emptied-out, emptied-inside}
+use Rattle.rules.proofs.Inside.{in-range, inside-refl, inside-trans, emptied-in, emptied-inside}
 use Rattle.rules.proofs.Rules.{relations-pos}
 use Rattle.rules.proofs.Strikes.{set-each}
 use Rattle.rules.proofs.Narrowing.{narrowed-table, narrowed-inside, narrowed-at, narrowed-one, narrowed-kept}
-use Rattle.rules.proofs.Arrangements.{One, one-has, one-within, Singles, closed-arrangement, arrangement-kept}
+use Rattle.rules.proofs.Arrangements.{One, one-has, one-within, Singles, closed-arrangement, arrangement-kept, arrangement-one, arrangement-whole}
 
 -- a closing: it gives the largest closed table inside a table
 abbrev pub Closes : Sheet → (List ℕ → List ℕ) → Type 0
@@ -104,20 +103,6 @@ module _ {s : Sheet} (f : WellFormed s) {clo : List ℕ → List ℕ} (closes : 
     closed : Closed s t
     whole : T (not (emptied t))
     settled : (p q : ℕ) → p < q → q < s .boards → List·Memᴰ (s .boards * p + q) ks ⊎ (size (at s t p q) ≤ 1)
-
-  pub arrangement-one : {u : List ℕ} → Arrangement s u → (k : ℕ) → k < s .boards * s .boards → One (getD u k 0)
-  arrangement-one {u} a k h =
-      each-place (λ k. One (getD u k 0)) (a .table) (a .single) k (subst (λ (n : ℕ). k < n) (sym (a .table .cells)) h)
-
-  -- no cell of an arrangement is empty
-  arrangement-whole : {u : List ℕ} → Arrangement s u → T (emptied u) → ⊥
-  arrangement-whole {u} a e = from (emptied-out u e)
-    where
-      from : (k : ℕ) × (k < length u) × (getD u k 0 ≡ 0) → ⊥
-      from m =
-          let o = arrangement-one a (m .0) (subst (λ (n : ℕ). m .0 < n) (a .table .cells) (m .1)) in
-          let z : 2 ^ o .0 ≡ 0 = sym (o .2) ∙ m .2 in
-          omega (arith, pow-pos (o .0))
 
   -- ---- where no choice is left
 

@@ -1,6 +1,6 @@
 -- A table is closed exactly if each rule of the description's list strikes nothing; and each rule's bound grows with the table, which is all
 -- that the closing needs to know of it. Assumes nothing.
-use mathlib.Core.Path.{_≡_, subst}
+use mathlib.Core.Path.{_≡_, refl, subst}
 use mathlib.Core.Bool.{Bool, true, false, not, _&&_, _||_}
 use mathlib.Core.Logic.{⊎-elim}
 use mathlib.Core.List.{List, _++_, List·Memᴰ}
@@ -9,7 +9,7 @@ use native.Mathlib.Omega.{arith}
 use lib.Dec.{T, eqb, eqb→eq, eqb-refl, not-T, T-not}
 use Rattle.rules.specs.Relations.{someBelow, eachBelow, relations, same, above, E, A, S, has, Lacks, full, join, complement, _⊆_, within, converse, compose}
 use Rattle.rules.specs.Descriptions.{RelationLine, KindLine, Sheet}
-use Rattle.rules.specs.Tables.{Table, Inside, at, upTo}
+use Rattle.rules.specs.Tables.{cell, Table, Inside, at, upTo}
 use Rattle.rules.specs.Arrangements.{way, width, Alike}
 use Rattle.rules.specs.Closed.{Misses, Closed}
 use Rattle.rules.specs.Closing.{unless, reaches, agree, bound6, bound6′, bound7, bound7′, Rule, Idle, lies, only, boardsOf, waysOf, rules1, rules2, rules3, rules4, rules5, rules6, rules7, rules}
@@ -151,9 +151,13 @@ pub unless-in : (b : Bool) (x m : ℕ) → (T (not b) → x ⊆ m) → x ⊆ unl
 unless-in true x m f = ⊆-full x
 unless-in false x m f = f tt
 
+-- where the test fails the set is left
+unless-not : (b : Bool) (m : ℕ) → (T b → ⊥) → unless b m ≡ m
+unless-not true m f = absurd (f tt)
+unless-not false m f = refl
+
 pub unless-out : (b : Bool) (x m : ℕ) → x ⊆ unless b m → T (not b) → x ⊆ m
-unless-out true x m s t = absurd t
-unless-out false x m s t = s
+unless-out b x m s t = subst (λ (y : ℕ). x ⊆ y) (unless-not b m (T-not b t)) s
 
 -- to lack a relation is to lie within the others
 lacks-⊆ : (x r : ℕ) → Lacks x r → x ⊆ complement (2 ^ r)
@@ -188,123 +192,126 @@ agree-alike k l t = (
   eqb→eq (width k) (width l) (T-and-right (eqb (k .code) (l .code)) (eqb (width k) (width l)) t),
 )
 
-module _ (s : Sheet) (t : List ℕ) where
-  -- rule 6, both parts, and rule 7, all three, say what their bounds say
+module _ (v : ℕ) (t : List ℕ) where
+  -- what a bound leaves where nothing keeps it open; and rule 6, both parts, and rule 7, all three, say what their bounds say
   module _ (k : KindLine) (z : ℕ) where
-    none-reaches : ((i : ℕ) → i < width k → Misses (at s t (way k i) z)) → T (not (someBelow (width k) (λ i. reaches (at s t (way k i) z))))
-    none-reaches f = not-T (someBelow (width k) (λ i. reaches (at s t (way k i) z))) (λ a. from (some-out (width k) (λ i. reaches (at s t (way k i) z)) a))
-      where
-        from : (i : ℕ) × (i < width k) × T (reaches (at s t (way k i) z)) → ⊥
-        from m = misses-not (at s t (way k (m .0)) z) (f (m .0) (m .1)) (m .2)
-
-    reaches-none : T (not (someBelow (width k) (λ i. reaches (at s t (way k i) z)))) → (i : ℕ) → i < width k → Misses (at s t (way k i) z)
-    reaches-none n i h =
-        not-misses (at s t (way k i) z)
-        (λ a. T-not (someBelow (width k) (λ i. reaches (at s t (way k i) z))) n (some-in (width k) (λ i. reaches (at s t (way k i) z)) i h a))
-
-    says6 : at s t (k .p) z ⊆ bound6 (s .boards) t k z → ((i : ℕ) → i < width k → Misses (at s t (way k i) z)) → Lacks (at s t (k .p) z) above
+    pub bound6-none : ((i : ℕ) → i < width k → Misses (cell v t (way k i) z)) → bound6 v t k z ≡ complement A
     unfolding bound6
-    says6 h f =
-        ⊆-lacks (at s t (k .p) z) above relations-pos
-        (unless-out (someBelow (width k) (λ i. reaches (at s t (way k i) z))) (at s t (k .p) z) (complement A) h (none-reaches f))
+    bound6-none f =
+        unless-not (someBelow (width k) (λ i. reaches (cell v t (way k i) z))) (complement A)
+        (λ a. from (some-out (width k) (λ i. reaches (cell v t (way k i) z)) a))
+      where
+        from : (i : ℕ) × (i < width k) × T (reaches (cell v t (way k i) z)) → ⊥
+        from m = misses-not (cell v t (way k (m .0)) z) (f (m .0) (m .1)) (m .2)
 
-    pub said6 : (((i : ℕ) → i < width k → Misses (at s t (way k i) z)) → Lacks (at s t (k .p) z) above) → at s t (k .p) z ⊆ bound6 (s .boards) t k z
+    pub says6 : cell v t (k .p) z ⊆ bound6 v t k z → ((i : ℕ) → i < width k → Misses (cell v t (way k i) z)) → Lacks (cell v t (k .p) z) above
+    says6 h f = ⊆-lacks (cell v t (k .p) z) above relations-pos (subst (λ (b : ℕ). cell v t (k .p) z ⊆ b) (bound6-none f) h)
+
+    pub said6 : (((i : ℕ) → i < width k → Misses (cell v t (way k i) z)) → Lacks (cell v t (k .p) z) above) → cell v t (k .p) z ⊆ bound6 v t k z
     unfolding bound6
     said6 f =
-        unless-in (someBelow (width k) (λ i. reaches (at s t (way k i) z))) (at s t (k .p) z) (complement A)
-        (λ n. lacks-⊆ (at s t (k .p) z) above (f (reaches-none n)))
+        unless-in (someBelow (width k) (λ i. reaches (cell v t (way k i) z))) (cell v t (k .p) z) (complement A)
+        (λ n.
+        lacks-⊆ (cell v t (k .p) z) above
+        (f
+        (λ i h.
+        not-misses (cell v t (way k i) z)
+        (λ a.
+        T-not (someBelow (width k) (λ i. reaches (cell v t (way k i) z))) n (some-in (width k) (λ i. reaches (cell v t (way k i) z)) i h a)))))
 
     module _ (i : ℕ) where
-      escapes : Bool
-      escapes = not (within (at s t (k .p) z) A)
+      abbrev escapes : Bool
+      escapes = not (within (cell v t (k .p) z) A)
 
-      others : Bool
-      others = someBelow (width k) (λ j. not (eqb i j) && reaches (at s t (way k j) z))
+      abbrev others : Bool
+      others = someBelow (width k) (λ j. not (eqb i j) && reaches (cell v t (way k j) z))
 
-      says6′ : at s t (way k i) z ⊆ bound6′ (s .boards) t k i z → at s t (k .p) z ⊆ A
-          → ((j : ℕ) → j < width k → (i ≡ j → ⊥) → Misses (at s t (way k j) z)) → at s t (way k i) z ⊆ join E A
-      unfolding bound6′ escapes others
-      says6′ h a f = unless-out (escapes || others) (at s t (way k i) z) (join E A) h (not-T (escapes || others) (λ o. ⊎-elim left right (T-or escapes others o)))
+      pub bound6′-alone : cell v t (k .p) z ⊆ A → ((j : ℕ) → j < width k → (i ≡ j → ⊥) → Misses (cell v t (way k j) z)) → bound6′ v t k i z ≡ join E A
+      unfolding bound6′
+      bound6′-alone a f = unless-not (escapes || others) (join E A) (λ o. ⊎-elim left right (T-or escapes others o))
         where
-          left : T (not (within (at s t (k .p) z) A)) → ⊥
-          left e = T-not (within (at s t (k .p) z) A) e (⊆-within a)
+          left : T escapes → ⊥
+          left e = T-not (within (cell v t (k .p) z) A) e (⊆-within a)
 
-          right : T (someBelow (width k) (λ j. not (eqb i j) && reaches (at s t (way k j) z))) → ⊥
-          right o = from (some-out (width k) (λ j. not (eqb i j) && reaches (at s t (way k j) z)) o)
+          right : T others → ⊥
+          right o = from (some-out (width k) (λ j. not (eqb i j) && reaches (cell v t (way k j) z)) o)
             where
-              from : (j : ℕ) × (j < width k) × T (not (eqb i j) && reaches (at s t (way k j) z)) → ⊥
+              from : (j : ℕ) × (j < width k) × T (not (eqb i j) && reaches (cell v t (way k j) z)) → ⊥
               from m =
-                  misses-not (at s t (way k (m .0)) z)
-                  (f (m .0) (m .1) (T-differ (T-and-left (not (eqb i (m .0))) (reaches (at s t (way k (m .0)) z)) (m .2))))
-                  (T-and-right (not (eqb i (m .0))) (reaches (at s t (way k (m .0)) z)) (m .2))
+                  misses-not (cell v t (way k (m .0)) z)
+                  (f (m .0) (m .1) (T-differ (T-and-left (not (eqb i (m .0))) (reaches (cell v t (way k (m .0)) z)) (m .2))))
+                  (T-and-right (not (eqb i (m .0))) (reaches (cell v t (way k (m .0)) z)) (m .2))
 
-      pub said6′ : (at s t (k .p) z ⊆ A → ((j : ℕ) → j < width k → (i ≡ j → ⊥) → Misses (at s t (way k j) z)) → at s t (way k i) z ⊆ join E A)
-          → at s t (way k i) z ⊆ bound6′ (s .boards) t k i z
-      unfolding bound6′ escapes others
+      pub says6′ : cell v t (way k i) z ⊆ bound6′ v t k i z → cell v t (k .p) z ⊆ A
+          → ((j : ℕ) → j < width k → (i ≡ j → ⊥) → Misses (cell v t (way k j) z)) → cell v t (way k i) z ⊆ join E A
+      says6′ h a f = subst (λ (b : ℕ). cell v t (way k i) z ⊆ b) (bound6′-alone a f) h
+
+      pub said6′ : (cell v t (k .p) z ⊆ A → ((j : ℕ) → j < width k → (i ≡ j → ⊥) → Misses (cell v t (way k j) z)) → cell v t (way k i) z ⊆ join E A)
+          → cell v t (way k i) z ⊆ bound6′ v t k i z
+      unfolding bound6′
       said6′ f =
-          unless-in (escapes || others) (at s t (way k i) z) (join E A)
+          unless-in (escapes || others) (cell v t (way k i) z) (join E A)
           (λ n.
           f
-          (within-⊆ (at s t (k .p) z) A (T-not-not (within (at s t (k .p) z) A) (λ e. T-not (escapes || others) n (or-T-left escapes others e))))
+          (within-⊆ (cell v t (k .p) z) A (T-not-not (within (cell v t (k .p) z) A) (λ e. T-not (escapes || others) n (or-T-left escapes others e))))
           (λ j h d.
-          not-misses (at s t (way k j) z)
+          not-misses (cell v t (way k j) z)
           (λ a.
           T-not (escapes || others) n
           (or-T-right escapes others
-          (some-in (width k) (λ j. not (eqb i j) && reaches (at s t (way k j) z)) j h
-          (and-T (not (eqb i j)) (reaches (at s t (way k j) z)) (differ-T d) a))))))
+          (some-in (width k) (λ j. not (eqb i j) && reaches (cell v t (way k j) z)) j h
+          (and-T (not (eqb i j)) (reaches (cell v t (way k j) z)) (differ-T d) a))))))
 
   module _ (k l : KindLine) where
-    paired : Bool
-    paired = eachBelow (width k) (λ i. has (at s t (way k i) (way l i)) same)
+    abbrev paired : Bool
+    paired = eachBelow (width k) (λ i. has (cell v t (way k i) (way l i)) same)
 
-    says7 : at s t (k .p) (l .p) ⊆ bound7 (s .boards) t k l → (Alike k l → ⊥) → Lacks (at s t (k .p) (l .p)) same
-    unfolding bound7 paired
-    says7 h f =
-        ⊆-lacks (at s t (k .p) (l .p)) same same-small
-        (unless-out (agree k l && paired) (at s t (k .p) (l .p)) (complement E) h
-        (not-T (agree k l && paired) (λ a. f (agree-alike k l (T-and-left (agree k l) paired a)))))
+    pub bound7-apart : (Alike k l → T paired → ⊥) → bound7 v t k l ≡ complement E
+    unfolding bound7
+    bound7-apart f =
+        unless-not (agree k l && paired) (complement E)
+        (λ a. f (agree-alike k l (T-and-left (agree k l) paired a)) (T-and-right (agree k l) paired a))
 
-    says7′ : at s t (k .p) (l .p) ⊆ bound7 (s .boards) t k l → (i : ℕ) → i < width k → Lacks (at s t (way k i) (way l i)) same
-        → Lacks (at s t (k .p) (l .p)) same
-    unfolding bound7 paired
+    pub lacks7 : cell v t (k .p) (l .p) ⊆ bound7 v t k l → (Alike k l → T paired → ⊥) → Lacks (cell v t (k .p) (l .p)) same
+    lacks7 h f = ⊆-lacks (cell v t (k .p) (l .p)) same same-small (subst (λ (b : ℕ). cell v t (k .p) (l .p) ⊆ b) (bound7-apart f) h)
+
+    says7 : cell v t (k .p) (l .p) ⊆ bound7 v t k l → (Alike k l → ⊥) → Lacks (cell v t (k .p) (l .p)) same
+    says7 h f = lacks7 h (λ a e. f a)
+
+    says7′ : cell v t (k .p) (l .p) ⊆ bound7 v t k l → (i : ℕ) → i < width k → Lacks (cell v t (way k i) (way l i)) same
+        → Lacks (cell v t (k .p) (l .p)) same
     says7′ h i g f =
-        ⊆-lacks (at s t (k .p) (l .p)) same same-small
-        (unless-out (agree k l && paired) (at s t (k .p) (l .p)) (complement E) h
-        (not-T (agree k l && paired)
-        (λ a. T-not (has (at s t (way k i) (way l i)) same) f
-        (each-at (width k) (λ i. has (at s t (way k i) (way l i)) same) (T-and-right (agree k l) paired a) i g))))
+        lacks7 h (λ a e. T-not (has (cell v t (way k i) (way l i)) same) f (each-at (width k) (λ i. has (cell v t (way k i) (way l i)) same) e i g))
 
-    pub said7 : ((Alike k l → ⊥) → Lacks (at s t (k .p) (l .p)) same)
-        → (Alike k l → (i : ℕ) → i < width k → Lacks (at s t (way k i) (way l i)) same → Lacks (at s t (k .p) (l .p)) same)
-        → at s t (k .p) (l .p) ⊆ bound7 (s .boards) t k l
-    unfolding bound7 paired
+    pub said7 : ((Alike k l → ⊥) → Lacks (cell v t (k .p) (l .p)) same)
+        → (Alike k l → (i : ℕ) → i < width k → Lacks (cell v t (way k i) (way l i)) same → Lacks (cell v t (k .p) (l .p)) same)
+        → cell v t (k .p) (l .p) ⊆ bound7 v t k l
+    unfolding bound7
     said7 f g =
-        unless-in (agree k l && paired) (at s t (k .p) (l .p)) (complement E)
-        (λ n. lacks-⊆ (at s t (k .p) (l .p)) same (⊎-elim (λ a. alike (agree-alike k l a) a n) (λ d. f (λ a. T-not (agree k l) d (alike-agree k l a))) (T-decide (agree k l))))
+        unless-in (agree k l && paired) (cell v t (k .p) (l .p)) (complement E)
+        (λ n. lacks-⊆ (cell v t (k .p) (l .p)) same (⊎-elim (λ a. alike (agree-alike k l a) a n) (λ d. f (λ a. T-not (agree k l) d (alike-agree k l a))) (T-decide (agree k l))))
       where
-        alike : Alike k l → T (agree k l) → T (not (agree k l && eachBelow (width k) (λ i. has (at s t (way k i) (way l i)) same)))
-            → Lacks (at s t (k .p) (l .p)) same
+        alike : Alike k l → T (agree k l) → T (not (agree k l && paired)) → Lacks (cell v t (k .p) (l .p)) same
         alike a e n =
-            not-T (has (at s t (k .p) (l .p)) same)
+            not-T (has (cell v t (k .p) (l .p)) same)
             (λ h.
             T-not (agree k l && paired) n
             (and-T (agree k l) paired e
-            (each-all (width k) (λ i. has (at s t (way k i) (way l i)) same)
+            (each-all (width k) (λ i. has (cell v t (way k i) (way l i)) same)
             (λ i b.
-            T-not-not (has (at s t (way k i) (way l i)) same) (λ c. T-not (has (at s t (k .p) (l .p)) same) (g a i b c) h)))))
+            T-not-not (has (cell v t (way k i) (way l i)) same) (λ c. T-not (has (cell v t (k .p) (l .p)) same) (g a i b c) h)))))
 
-    pub says7″ : (i : ℕ) → at s t (way k i) (way l i) ⊆ bound7′ (s .boards) t k l → at s t (k .p) (l .p) ⊆ E → at s t (way k i) (way l i) ⊆ E
+    pub says7″ : (i : ℕ) → cell v t (way k i) (way l i) ⊆ bound7′ v t k l → cell v t (k .p) (l .p) ⊆ E → cell v t (way k i) (way l i) ⊆ E
     unfolding bound7′
     says7″ i h a =
-        unless-out (not (within (at s t (k .p) (l .p)) E)) (at s t (way k i) (way l i)) E h
-        (not-T (not (within (at s t (k .p) (l .p)) E)) (λ e. T-not (within (at s t (k .p) (l .p)) E) e (⊆-within a)))
+        unless-out (not (within (cell v t (k .p) (l .p)) E)) (cell v t (way k i) (way l i)) E h
+        (not-T (not (within (cell v t (k .p) (l .p)) E)) (λ e. T-not (within (cell v t (k .p) (l .p)) E) e (⊆-within a)))
 
-    pub said7″ : (i : ℕ) → (at s t (k .p) (l .p) ⊆ E → at s t (way k i) (way l i) ⊆ E) → at s t (way k i) (way l i) ⊆ bound7′ (s .boards) t k l
+    pub said7″ : (i : ℕ) → (cell v t (k .p) (l .p) ⊆ E → cell v t (way k i) (way l i) ⊆ E) → cell v t (way k i) (way l i) ⊆ bound7′ v t k l
     unfolding bound7′
     said7″ i f =
-        unless-in (not (within (at s t (k .p) (l .p)) E)) (at s t (way k i) (way l i)) E
-        (λ n. f (within-⊆ (at s t (k .p) (l .p)) E (T-not-not (within (at s t (k .p) (l .p)) E) (λ e. T-not (not (within (at s t (k .p) (l .p)) E)) n e))))
+        unless-in (not (within (cell v t (k .p) (l .p)) E)) (cell v t (way k i) (way l i)) E
+        (λ n. f (within-⊆ (cell v t (k .p) (l .p)) E (T-not-not (within (cell v t (k .p) (l .p)) E) (λ e. T-not (not (within (cell v t (k .p) (l .p)) E)) n e))))
 
 -- two cells within each other's converses are each other's converses
 turned : (s : Sheet) (t : List ℕ) → Table (s .boards) t → (p q : ℕ) → at s t q p ⊆ converse (at s t p q) → at s t p q ⊆ converse (at s t q p)
@@ -324,10 +331,10 @@ closed-idle {s} {t} c =
       r4 = c .rule4;
       r5 = c .rule5;
       r5′ = λ k m i j h l d. c .rule5′ k m i j h l (T-differ d);
-      r6 = λ k m z h. said6 s t k z (c .rule6 k m z h);
-      r6′ = λ k m z h i l. said6′ s t k z i (c .rule6′ k m z h i l);
-      r7 = λ k m l n. said7 s t k l (c .rule7 k m l n) (c .rule7′ k m l n);
-      r7′ = λ k m l n a i h. said7″ s t k l i (λ b. c .rule7″ k m l n (agree-alike k l a) b i h);
+      r6 = λ k m z h. said6 (s .boards) t k z (c .rule6 k m z h);
+      r6′ = λ k m z h i l. said6′ (s .boards) t k z i (c .rule6′ k m z h i l);
+      r7 = λ k m l n. said7 (s .boards) t k l (c .rule7 k m l n) (c .rule7′ k m l n);
+      r7′ = λ k m l n a i h. said7″ (s .boards) t k l i (λ b. c .rule7″ k m l n (agree-alike k l a) b i h);
     })
 
 pub idle-closed : (s : Sheet) (t : List ℕ) → Table (s .boards) t → All (Idle (s .boards) t) (rules s) → Closed s t
@@ -340,11 +347,11 @@ idle-closed s t g h =
       rule4 = r .r4;
       rule5 = r .r5;
       rule5′ = λ k m i j b l d. r .r5′ k m i j b l (differ-T d);
-      rule6 = λ k m z b. says6 s t k z (r .r6 k m z b);
-      rule6′ = λ k m z b i l. says6′ s t k z i (r .r6′ k m z b i l);
-      rule7 = λ k m l n. says7 s t k l (r .r7 k m l n);
-      rule7′ = λ k m l n a i b. says7′ s t k l (r .r7 k m l n) i b;
-      rule7″ = λ k m l n a b i d. says7″ s t k l i (r .r7′ k m l n (alike-agree k l a) i d) b;
+      rule6 = λ k m z b. says6 (s .boards) t k z (r .r6 k m z b);
+      rule6′ = λ k m z b i l. says6′ (s .boards) t k z i (r .r6′ k m z b i l);
+      rule7 = λ k m l n. says7 (s .boards) t k l (r .r7 k m l n);
+      rule7′ = λ k m l n a i b. says7′ (s .boards) t k l (r .r7 k m l n) i b;
+      rule7″ = λ k m l n a b i d. says7″ (s .boards) t k l i (r .r7′ k m l n (alike-agree k l a) i d) b;
     }
 
 -- ---- bounds that grow with the table
@@ -361,58 +368,58 @@ unless-grows false false m h = ⊆-refl m
 pub reaches-grows : {x y : ℕ} → x ⊆ y → T (reaches x) → T (reaches y)
 unfolding reaches
 reaches-grows {x} {y} s t =
-    ⊎-elim (λ a. or-T-left (has y 0) (has y 1) (s .member 0 (omega (arith, relations-pos)) a))
-    (λ a. or-T-right (has y 0) (has y 1) (s .member 1 relations-pos a)) (T-or (has x 0) (has x 1) t)
+    ⊎-elim (λ a. or-T-left (has y same) (has y above) (s .member same same-small a))
+    (λ a. or-T-right (has y same) (has y above) (s .member above relations-pos a)) (T-or (has x same) (has x above) t)
 
 -- having something else than what is in m
 escapes-grows : {x y : ℕ} (m : ℕ) → x ⊆ y → T (not (within x m)) → T (not (within y m))
 escapes-grows {x} {y} m s t = not-T (within y m) (λ u. T-not (within x m) t (⊆-within (⊆-trans s (within-⊆ y m u))))
 
-module _ (s : Sheet) {u t : List ℕ} (i : Inside u t) where
-  inside : (p q : ℕ) → at s u p q ⊆ at s t p q
-  inside p q = i .each (s .boards * p + q)
+module _ (v : ℕ) {u t : List ℕ} (i : Inside u t) where
+  inside : (p q : ℕ) → cell v u p q ⊆ cell v t p q
+  inside p q = i .each (v * p + q)
 
-  pub bound6-grows : (k : KindLine) (z : ℕ) → bound6 (s .boards) u k z ⊆ bound6 (s .boards) t k z
+  pub bound6-grows : (k : KindLine) (z : ℕ) → bound6 v u k z ⊆ bound6 v t k z
   unfolding bound6
   bound6-grows k z =
-      unless-grows (someBelow (width k) (λ i. reaches (at s u (way k i) z))) (someBelow (width k) (λ i. reaches (at s t (way k i) z))) (complement A)
-      (λ a. more (some-out (width k) (λ i. reaches (at s u (way k i) z)) a))
+      unless-grows (someBelow (width k) (λ i. reaches (cell v u (way k i) z))) (someBelow (width k) (λ i. reaches (cell v t (way k i) z))) (complement A)
+      (λ a. more (some-out (width k) (λ i. reaches (cell v u (way k i) z)) a))
     where
-      more : (i : ℕ) × (i < width k) × T (reaches (at s u (way k i) z)) → T (someBelow (width k) (λ i. reaches (at s t (way k i) z)))
-      more m = some-in (width k) (λ i. reaches (at s t (way k i) z)) (m .0) (m .1) (reaches-grows (inside (way k (m .0)) z) (m .2))
+      more : (i : ℕ) × (i < width k) × T (reaches (cell v u (way k i) z)) → T (someBelow (width k) (λ i. reaches (cell v t (way k i) z)))
+      more m = some-in (width k) (λ i. reaches (cell v t (way k i) z)) (m .0) (m .1) (reaches-grows (inside (way k (m .0)) z) (m .2))
 
-  pub bound6′-grows : (k : KindLine) (j z : ℕ) → bound6′ (s .boards) u k j z ⊆ bound6′ (s .boards) t k j z
+  pub bound6′-grows : (k : KindLine) (j z : ℕ) → bound6′ v u k j z ⊆ bound6′ v t k j z
   unfolding bound6′
   bound6′-grows k j z =
       unless-grows
-      (not (within (at s u (k .p) z) A) || someBelow (width k) (λ i. not (eqb j i) && reaches (at s u (way k i) z)))
-      (not (within (at s t (k .p) z) A) || someBelow (width k) (λ i. not (eqb j i) && reaches (at s t (way k i) z)))
+      (not (within (cell v u (k .p) z) A) || someBelow (width k) (λ i. not (eqb j i) && reaches (cell v u (way k i) z)))
+      (not (within (cell v t (k .p) z) A) || someBelow (width k) (λ i. not (eqb j i) && reaches (cell v t (way k i) z)))
       (join E A)
-      (λ a. ⊎-elim (λ b. or-T-left (not (within (at s t (k .p) z) A)) _ (escapes-grows A (inside (k .p) z) b))
-      (λ b. or-T-right (not (within (at s t (k .p) z) A)) _ (more (some-out (width k) (λ i. not (eqb j i) && reaches (at s u (way k i) z)) b)))
-      (T-or (not (within (at s u (k .p) z) A)) _ a))
+      (λ a. ⊎-elim (λ b. or-T-left (not (within (cell v t (k .p) z) A)) _ (escapes-grows A (inside (k .p) z) b))
+      (λ b. or-T-right (not (within (cell v t (k .p) z) A)) _ (more (some-out (width k) (λ i. not (eqb j i) && reaches (cell v u (way k i) z)) b)))
+      (T-or (not (within (cell v u (k .p) z) A)) _ a))
     where
-      more : (i : ℕ) × (i < width k) × T (not (eqb j i) && reaches (at s u (way k i) z))
-          → T (someBelow (width k) (λ i. not (eqb j i) && reaches (at s t (way k i) z)))
+      more : (i : ℕ) × (i < width k) × T (not (eqb j i) && reaches (cell v u (way k i) z))
+          → T (someBelow (width k) (λ i. not (eqb j i) && reaches (cell v t (way k i) z)))
       more m =
-          some-in (width k) (λ i. not (eqb j i) && reaches (at s t (way k i) z)) (m .0) (m .1)
-          (and-T (not (eqb j (m .0))) (reaches (at s t (way k (m .0)) z)) (T-and-left (not (eqb j (m .0))) (reaches (at s u (way k (m .0)) z)) (m .2))
-          (reaches-grows (inside (way k (m .0)) z) (T-and-right (not (eqb j (m .0))) (reaches (at s u (way k (m .0)) z)) (m .2))))
+          some-in (width k) (λ i. not (eqb j i) && reaches (cell v t (way k i) z)) (m .0) (m .1)
+          (and-T (not (eqb j (m .0))) (reaches (cell v t (way k (m .0)) z)) (T-and-left (not (eqb j (m .0))) (reaches (cell v u (way k (m .0)) z)) (m .2))
+          (reaches-grows (inside (way k (m .0)) z) (T-and-right (not (eqb j (m .0))) (reaches (cell v u (way k (m .0)) z)) (m .2))))
 
-  pub bound7-grows : (k l : KindLine) → bound7 (s .boards) u k l ⊆ bound7 (s .boards) t k l
+  pub bound7-grows : (k l : KindLine) → bound7 v u k l ⊆ bound7 v t k l
   unfolding bound7
   bound7-grows k l =
-      unless-grows (agree k l && eachBelow (width k) (λ i. has (at s u (way k i) (way l i)) 0))
-      (agree k l && eachBelow (width k) (λ i. has (at s t (way k i) (way l i)) 0)) (complement E)
+      unless-grows (agree k l && eachBelow (width k) (λ i. has (cell v u (way k i) (way l i)) same))
+      (agree k l && eachBelow (width k) (λ i. has (cell v t (way k i) (way l i)) same)) (complement E)
       (λ a. and-T (agree k l) _ (T-and-left (agree k l) _ a)
-      (each-all (width k) (λ i. has (at s t (way k i) (way l i)) 0)
-      (λ i h. inside (way k i) (way l i) .member 0 (omega (arith, relations-pos))
-      (each-at (width k) (λ i. has (at s u (way k i) (way l i)) 0) (T-and-right (agree k l) _ a) i h))))
+      (each-all (width k) (λ i. has (cell v t (way k i) (way l i)) same)
+      (λ i h. inside (way k i) (way l i) .member same same-small
+      (each-at (width k) (λ i. has (cell v u (way k i) (way l i)) same) (T-and-right (agree k l) _ a) i h))))
 
-  pub bound7′-grows : (k l : KindLine) → bound7′ (s .boards) u k l ⊆ bound7′ (s .boards) t k l
+  bound7′-grows : (k l : KindLine) → bound7′ v u k l ⊆ bound7′ v t k l
   unfolding bound7′
   bound7′-grows k l =
-      unless-grows (not (within (at s u (k .p) (l .p)) E)) (not (within (at s t (k .p) (l .p)) E)) E (escapes-grows E (inside (k .p) (l .p)))
+      unless-grows (not (within (cell v u (k .p) (l .p)) E)) (not (within (cell v t (k .p) (l .p)) E)) E (escapes-grows E (inside (k .p) (l .p)))
 
 pub rules-grow : (s : Sheet) → All (λ r. Grows (r .bound)) (rules s)
 rules-grow s =
@@ -424,8 +431,8 @@ rules-grow s =
       r4 = λ l m u t i. ⊆-refl (l .allowed);
       r5 = λ k m i h u t n. ⊆-refl A;
       r5′ = λ k m i j h l d u t n. ⊆-refl S;
-      r6 = λ k m z h u t i. bound6-grows s i k z;
-      r6′ = λ k m z h j l u t i. bound6′-grows s i k j z;
-      r7 = λ k m l n u t i. bound7-grows s i k l;
-      r7′ = λ k m l n a j h u t i. bound7′-grows s i k l;
+      r6 = λ k m z h u t i. bound6-grows (s .boards) i k z;
+      r6′ = λ k m z h j l u t i. bound6′-grows (s .boards) i k j z;
+      r7 = λ k m l n u t i. bound7-grows (s .boards) i k l;
+      r7′ = λ k m l n a j h u t i. bound7′-grows (s .boards) i k l;
     })

@@ -5,7 +5,7 @@ use Prim.Native.Nat.{ℕ, zero, suc, _^_, _≤_, _<_}
 use native.Mathlib.Omega.{arith}
 use lib.Pow.{pow-pos, pow-lt}
 use lib.Dec.{T, T-not, not-T}
-use Rattle.rules.specs.Relations.{relations, sets, has, setOf, full, meet, join, complement, within, size, _⊆_}
+use Rattle.rules.specs.Relations.{relations, sets, has, Lacks, setOf, full, meet, join, complement, within, size, _⊆_}
 use Rattle.rules.proofs.Tests.{and-T, T-and-left, T-and-right, T-ext, each-at, each-all, count-mono, count-tight, count-one, count-pos, count-some}
 use Rattle.rules.proofs.Digits.{has-setTo, setTo-small, digits-ext, has-zero, has-single, single-has}
 
@@ -91,10 +91,6 @@ pub join-in : (x y r : ℕ) → r < relations → T (has x r || has y r) → T (
 unfolding join
 join-in x y r h t = setOf-in (λ r. has x r || has y r) r h t
 
-pub join-out : (x y r : ℕ) → r < relations → T (has (join x y) r) → T (has x r || has y r)
-unfolding join
-join-out x y r h t = setOf-out (λ r. has x r || has y r) r h t
-
 pub complement-in : (x r : ℕ) → r < relations → (T (has x r) → ⊥) → T (has (complement x) r)
 unfolding complement
 complement-in x r h f = setOf-in (λ r. not (has x r)) r h (not-T (has x r) f)
@@ -175,3 +171,22 @@ pub ⊆-one : (r : ℕ) {x : ℕ} → x < sets → r < relations → x ⊆ 2 ^ r
     go m =
         let e : m .0 ≡ r = single-has r (m .0) (t .member (m .0) (m .1) (m .2)) in
         ⊆-antisym h (single-small l) t (single-⊆ r x (subst (λ (j : ℕ). T (has x j)) e (m .2)))
+
+-- ---- what a set has, by what it has in common with another
+
+-- two sets with a common relation have something in common
+pub shared : (x y r : ℕ) → r < relations → T (has x r) → T (has y r) → meet x y ≡ 0 → ⊥
+shared x y r h s t e =
+    subst T (has-zero r) (subst (λ (z : ℕ). T (has z r)) e (⊆-single h (meet-largest (single-⊆ r x s) (single-⊆ r y t))))
+
+-- a set has a relation or not, by whether it has something in common with that relation alone
+pub unshared-lacks : (r x : ℕ) → r < relations → meet x (2 ^ r) ≡ 0 → Lacks x r
+unshared-lacks r x h e = not-T (has x r) (λ t. shared x (2 ^ r) r h t (has-single r) e)
+
+pub shared-has : (r x : ℕ) → (meet x (2 ^ r) ≡ 0 → ⊥) → T (has x r)
+shared-has r x n = from (some-member (meet-small x (2 ^ r)) n)
+  where
+    from : (s : ℕ) × (s < relations) × T (has (meet x (2 ^ r)) s) → T (has x r)
+    from m =
+        subst (λ (s : ℕ). T (has x s)) (single-has r (m .0) (meet-right x (2 ^ r) .member (m .0) (m .1) (m .2)))
+        (meet-left x (2 ^ r) .member (m .0) (m .1) (m .2))

@@ -11,7 +11,7 @@ use lib.Seq.{length-take-le}
 use Rattle.rules.specs.Expressions.{value, expression}
 use Rattle.rules.specs.Descriptions.{RelationLine, KindLine, Reading, good, refused, Front, meaning, boardsOnly, relationLine, kindLine}
 use Rattle.rules.proofs.Tests.{clash, T-true, T-false, true-T}
-use Rattle.rules.proofs.Lines.{OnBoards, OnPanel, relation-front, relation-read, kind-read, kind-out, ways-length, after-line, boardsOnly-in, boardsOnly-out}
+use Rattle.rules.proofs.Lines.{OnBoards, OnPanel, relation-front, relation-read, kind-read, ways-length, after-line, boardsOnly-in, boardsOnly-out}
 use Rattle.sheet.specs.declared.expressions.Expression.{Expression}
 use Rattle.sheet.specs.declared.expressions.Expression.the-variants.{Set, Malformed}
 use Rattle.sheet.specs.declared.refusals.Refusal.{Refusal}
@@ -97,13 +97,6 @@ module _ (v k n : ℕ) (ws : List ℕ) (b : Bool) (width : k ≡ n) (tests : b �
 pub kind-line-found : (v : ℕ) (ws : List ℕ) → OnPanel v ws
     → kind.Line (record { p = getD ws 0 0; code = getD ws 1 0; ways = getD ws 2 0 }) (length ws - (3 + getD ws 2 0)) ≡ kindFound (kindLine v ws)
 kind-line-found v ws o = rw (kind-read v ws o) (rw (ways-length v ws (o .fits), after-line (getD ws 2 0) ws))
-
--- the ways of a line are the words after its third, as many as are found
-pub kind-ways : (v : ℕ) (ws : List ℕ) (f : Front KindLine) → kindLine v ws ≡ good f → f .line .ways ≡ take (length (f .line .ways)) (drop 3 ws)
-kind-ways v ws f e =
-    let r = kind-out v ws f e in
-    subst (λ (g : Front KindLine). g .line .ways ≡ take (length (g .line .ways)) (drop 3 ws)) (r .front)
-    (ap (λ (i : ℕ). take i (drop 3 ws)) (sym (ways-length v ws (r .passed .fits))))
 
 -- what was found, read back
 pub kind-line-out : (r : Reading (Front KindLine)) (l : declared-kind.KindLine) (k : ℕ) → kind.Line l k ≡ kindFound r

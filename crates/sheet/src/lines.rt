@@ -130,5 +130,6 @@ pub fn way(ways: &[u16], i: usize) -> usize
     requires { ⌜ i < length (now ways) ⌝ }
     ensures { λ y. ⌜ y ≡ getD (now (ways .entry)) i 0 ⌝ }
 {
-    wide(ways[i])
+    let board = ways[i];
+    wide(board)
 }

@@ -1,9 +1,7 @@
 -- `close_by_copy` meets its contract: each of its ends is one of the laws of a closing. Assumes nothing.
-use mathlib.Core.Path.{_≡_, refl, sym, ap, _∙_, subst}
-use Rattle.rules.specs.Calls.{succeed}
+use mathlib.Core.Path.{sym, subst}
 use Rattle.passes.specs.Passes.{Ready}
 use Rattle.sheet.proofs.Described.{described}
-use Rattle.closing.specs.Closes.{closes}
 use Rattle.closing.proofs.Copies.{copied-none, copied-same, copied-ready}
 use Rattle.closing.proofs.Closings.{close-no-table, close-emptied, close-struck}
 use borrow.Author.Needs.{needs}

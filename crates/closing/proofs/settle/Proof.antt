@@ -1,11 +1,11 @@
 -- `settle` meets its contract: what the rules strike whose bounds stay, and then the rounds of the others, comes to the largest closed table.
 -- Assumes nothing.
-use mathlib.Core.Path.{_≡_, sym, _∙_, subst}
+use mathlib.Core.Path.{_≡_, subst}
 use Prim.Native.Nat.{_+_, _≤_}
 use native.Mathlib.Omega.{arith}
 use lib.Dec.{T}
 use lib.ListN.{length}
-use Rattle.rules.specs.Descriptions.{Sheet, good}
+use Rattle.rules.specs.Descriptions.{Sheet}
 use Rattle.rules.specs.Tables.{emptied}
 use Rattle.rules.specs.Closing.{closing}
 use Rattle.passes.proofs.Passes.{kept-few, kept-then, kept-from, ready-kept}

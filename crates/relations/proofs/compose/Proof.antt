@@ -1,8 +1,7 @@
 -- `relations::compose` meets its contract: it reads the entry at SETS times x plus y. Assumes nothing.
 use borrow.Author.Needs.{needs}
-use Prim.Native.Nat.{_<_}
 use native.Mathlib.Omega.{arith}
-use Rattle.rules.specs.Relations.{relations, sets}
+use Rattle.rules.specs.Relations.{relations}
 use Rattle.relations.proofs.compose.Statement.{statement}
 use Rattle.relations.proofs.compose.Tie as tie
 

@@ -3,7 +3,7 @@ use mathlib.Core.Path.{sym, ap, subst}
 use Prim.Native.Nat.{ℕ, _≤_, _<_}
 use native.Mathlib.Omega.{arith}
 use borrow.Author.Needs.{needs}
-use lib.ListN.{getD, length-set}
+use lib.ListN.{getD}
 use Rattle.rules.specs.Relations.{sets, meet, size}
 use Rattle.rules.proofs.Sets.{meet-small, meet-left, size-mono}
 use Rattle.tables.proofs.Narrowings.{narrowed-not, narrowed-so}

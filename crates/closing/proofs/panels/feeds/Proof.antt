@@ -1,35 +1,43 @@
 -- `panels::feeds` meets its contract: a pass by rule 6 over the boards that were passed. The measure is the boards left. Assumes nothing.
-use Prim.Native.Nat.{_-_}
+use mathlib.Core.List.{flatMap}
+use Prim.Native.Nat.{_-_, _≤_}
 use native.Mathlib.Omega.{arith}
-use Rattle.passes.proofs.Passes.{kept-few}
+use Rattle.rules.specs.Tables.{upTo}
+use Rattle.rules.specs.Closing.{rule6}
+use Rattle.passes.specs.Passes.{Pass, Quiet}
+use Rattle.passes.proofs.Passes.{pass-start, pass-from, pass-next, pass-whole, kept-few, ready-kept}
 use Rattle.closing.specs.Panels.{panel}
-use Rattle.closing.proofs.Feeding.{Fed, fed-none, fed-next, fed-all}
 use Rattle.closing.proofs.panels.feeds.Statement.{statement}
 use Rattle.closing.proofs.panels.feeds.Tie as tie
 
 abbrev Inv-loop : tie.InvT-loop
-Inv-loop v p ways cells₀ struck₀ z₀ cells struck z = Fed v (panel p 0 ways) z cells₀ struck₀ cells struck
+Inv-loop v p ways cells₀ struck₀ z₀ cells struck z =
+    (z ≤ v) × Pass (Quiet v) v (flatMap (rule6 v (panel p 0 ways)) (upTo z)) cells₀ struck₀ cells struck
 
 abbrev μ-loop : tie.MeasureT-loop
 μ-loop v p ways cells₀ struck₀ z₀ cells struck z = v - z
 
 loop-holds : tie.Need-loop-holds Inv-loop μ-loop
-loop-holds c = fed-none (c .before .before .pre .0)
+loop-holds c = (omega arith, pass-start _ _ (c .before .before .pre .0 .table))
 
 feed-requires : tie.Need-feed-requires Inv-loop μ-loop
 feed-requires c κs =
     let pre = c .before .before .before .before .before .pre in
-    (record { boards = pre .0 .boards; table = c .before .before .loop .inv .pass .kept .table }, pre .1, pre .2, c .before .loop-test .taken)
+    (ready-kept (pre .0) (c .before .before .loop .inv .1 .kept), pre .1, pre .2, c .before .loop-test .taken)
 
 loop-again : tie.Need-loop-again Inv-loop μ-loop
 loop-again c =
-    let pre = c .before .before .before .before .before .before .before .before .pre in
-    fed-next (pre .0) (c .before .before .before .before .before .loop .inv) (c .before .before .before .before .loop-test .taken) (c .before .before .feed .ensures)
+    let start = c .before .before .before .before .before .before .before .before in
+    let loop = c .before .before .before .before .before .loop in (
+      omega arith,
+      pass-next _ (rule6 (start .args .v) (panel (start .args .p) 0 (start .args .ways .now))) (loop .z) (start .pre .0 .table) (loop .inv .1)
+          (pass-from _ (loop .struck) (c .before .before .feed .ensures)),
+    )
 
 add-struck : tie.Need-add-struck Inv-loop μ-loop
 add-struck c =
     let pre = c .before .before .before .before .before .before .before .before .pre in
-    record { fits = omega (arith, kept-few (pre .0) (loop-again c .pass .kept)) }
+    record { fits = omega (arith, kept-few (pre .0) (loop-again c .1 .kept)) }
 
 add-z : tie.Need-add-z Inv-loop μ-loop
 add-z c = omega arith
@@ -38,10 +46,13 @@ loop-less : tie.Need-loop-less Inv-loop μ-loop
 loop-less c = omega arith
 
 same-length : tie.Need-same-length Inv-loop μ-loop
-same-length c = c .before .loop .inv .pass .kept .inside .cells
+same-length c = c .before .loop .inv .1 .kept .inside .cells
 
 returns : tie.Need-returns Inv-loop μ-loop
-returns c = fed-all (c .before .loop .inv) (c .loop-test .left)
+returns c =
+    let start = c .before .before .before .before in
+    pass-whole _ (rule6 (start .args .v) (panel (start .args .p) 0 (start .args .ways .now))) (start .args .v) (c .before .loop .inv .0) (c .loop-test .left)
+    (c .before .loop .inv .1)
 
 pub feeds-spec : {M : Type 1} → statement M
 feeds-spec =

@@ -3,7 +3,7 @@ use Prim.Native.Nat.{_-_, _<_}
 use native.Mathlib.Omega.{arith}
 use borrow.Author.Needs.{needs}
 use lib.ListN.{length}
-use Rattle.closing.proofs.Spreading.{InTable, in-table}
+use Rattle.passes.proofs.Passes.{place-few, ready-place}
 use Rattle.closing.proofs.Feeding.{Passed, passed-none, passed-all, passed-found, passed-more}
 use Rattle.closing.proofs.panels.reaching.Statement.{statement}
 use Rattle.closing.proofs.panels.reaching.Tie as tie
@@ -20,23 +20,22 @@ loop-holds c = passed-none (c .before .before .pre .3)
 way-requires : tie.Need-way-requires Inv-loop μ-loop
 way-requires c κs = search needs
 
--- the cell that is asked is one of the table's
-asked : (c : tie.After-way Inv-loop μ-loop)
-    → InTable (c .before .before .before .before .before .args .v) (c .before .before .before .before .before .args .cells .now) (c .way .result)
-    (c .before .before .before .before .before .args .z)
-asked c =
+-- the way that is asked is a board
+board : (c : tie.After-way Inv-loop μ-loop) → c .way .result < c .before .before .before .before .before .args .v
+board c =
     let start = c .before .before .before .before .before in
-    let board : c .way .result < start .args .v = omega (arith, start .pre .1 (c .before .before .loop .i) (c .before .loop-test .taken)) in
-    in-table (c .way .result) (start .args .z) (start .pre .0) board (start .pre .2)
+    omega (arith, c .way .ensures, start .pre .1 (c .before .before .loop .i) (c .before .loop-test .taken))
 
 mul-k : tie.Need-mul-k Inv-loop μ-loop
-mul-k c = record { fits = omega (arith, asked c) }
+mul-k c = let pre = c .before .before .before .before .before .pre in record { fits = omega (arith, place-few (pre .0 .boards) (board c) (pre .2)) }
 
 add-k : tie.Need-add-k Inv-loop μ-loop
-add-k c = record { fits = omega (arith, asked c) }
+add-k c = let pre = c .before .before .before .before .before .pre in record { fits = omega (arith, place-few (pre .0 .boards) (board c) (pre .2)) }
 
 shared-slice-read-reaches : tie.Need-shared-slice-read-reaches Inv-loop μ-loop
-shared-slice-read-reaches c = asked (c .before) .0
+shared-slice-read-reaches c =
+    let start = c .before .before .before .before .before .before in
+    ready-place (start .pre .0) (board (c .before)) (start .pre .2)
 
 reaches-requires : tie.Need-reaches-requires Inv-loop μ-loop
 reaches-requires c κs = c .before .before .before .before .before .before .pre .0 .table .small _

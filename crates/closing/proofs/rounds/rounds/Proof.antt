@@ -1,16 +1,12 @@
 -- `rounds::rounds` meets its contract: each round is three passes and a sweep, whichever rules they follow, and the last one struck nothing. The measure
 -- is the number of relations left. Assumes nothing.
-use mathlib.Core.Path.{_≡_, sym, _∙_, subst}
-use mathlib.Core.List.{List}
-use Prim.Native.Nat.{ℕ, _+_, _≤_, _<_}
+use mathlib.Core.Path.{sym, _∙_, subst}
 use native.Mathlib.Omega.{arith}
 use borrow.Author.Needs.{needs}
-use Rattle.rules.specs.Descriptions.{KindLine}
 use Rattle.rules.specs.Tables.{total}
 use Rattle.rules.specs.Closing.{rules2, rules3, rules6, rules7}
-use Rattle.passes.specs.Passes.{Ready, Kept, Pass, Sound, Clash}
+use Rattle.passes.specs.Passes.{Kept}
 use Rattle.passes.proofs.Passes.{kept-start, kept-few, ready-kept}
-use Rattle.closing.specs.declared.sweeps.Swept.{Swept}
 use Rattle.closing.specs.Lines.{WithKinds}
 use Rattle.closing.specs.Sweeps.{sweeping, moving}
 use Rattle.closing.proofs.Settling.{round, round-again, round-settled, round-clash}

@@ -2,9 +2,10 @@
 use mathlib.Core.List.{flatMap}
 use Prim.Native.Nat.{_+_, _*_, _-_, _≤_, _<_}
 use native.Mathlib.Omega.{arith}
-use Rattle.rules.specs.Relations.{relations, sets, E}
 use Rattle.rules.specs.Tables.{upTo}
 use Rattle.rules.specs.Closing.{rules1}
+use Rattle.rules.proofs.Sets.{single-small}
+use Rattle.rules.proofs.Rules.{same-small}
 use Rattle.passes.specs.Passes.{Once}
 use Rattle.passes.proofs.Passes.{once-start, once-whole, place-few, ready-place, ready-kept, kept-few}
 use Rattle.closing.proofs.Sweeping.{itself, itself-turn}
@@ -32,16 +33,12 @@ add-k c =
     let l : c .before .loop .p < start .args .v = c .loop-test .taken in
     record { fits = omega (arith, place-few (start .pre .boards) l l) }
 
-same-set : E < sets
-unfolding relations
-same-set = omega arith
-
 narrow-requires : tie.Need-narrow-requires Inv-loop μ-loop
 narrow-requires c κs =
     let start = c .before .before .before .before in
     let p = c .before .before .loop .p in
     let ready = ready-kept (start .pre) (c .before .before .loop .inv .1 .kept) in
-    (ready-place ready (c .before .loop-test .taken) (c .before .loop-test .taken), ready .table .small (start .args .v * p + p), same-set)
+    (ready-place ready (c .before .loop-test .taken) (c .before .loop-test .taken), ready .table .small (start .args .v * p + p), single-small same-small)
 
 add-struck : tie.Need-add-struck Inv-loop μ-loop
 add-struck c =

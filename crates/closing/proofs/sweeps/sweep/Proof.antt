@@ -11,7 +11,6 @@ use Rattle.rules.specs.Relations.{sets}
 use Rattle.rules.specs.Tables.{cell, upTo}
 use Rattle.rules.specs.Closing.{rules3}
 use Rattle.rules.proofs.Composition.{compose-small}
-use Rattle.relations.specs.Composing.{Composes}
 use Rattle.passes.specs.Passes.{Sound, Pass, Clash}
 use Rattle.passes.proofs.Passes.{pass-start, pass-next, pass-whole, kept-then, kept-few, place-few, ready-place, ready-kept}
 use Rattle.closing.proofs.Sweeping.{through, through-each, through-all, through-turn, through-kept, through-clash}

@@ -1,10 +1,12 @@
 -- `twins::paired` meets its contract: each pair of ways that was passed has E. The measure is the ways left. Assumes nothing.
-use mathlib.Core.Path.{refl}
 use Prim.Native.Nat.{ℕ, _+_, _*_, _-_, _≤_, _<_}
 use native.Mathlib.Omega.{arith}
 use borrow.Author.Count.{below-none, below-more}
-use Rattle.tables.proofs.Freshness.{square-small}
-use Rattle.closing.proofs.Twinning.{E-small, Pairs, paired-not, paired-all, pairs, pair-in}
+use lib.ListN.{length}
+use Rattle.rules.proofs.Sets.{single-small}
+use Rattle.rules.proofs.Rules.{same-small}
+use Rattle.passes.proofs.Passes.{place-few, ready-place}
+use Rattle.closing.proofs.Twinning.{Pairs, paired-not, paired-all, pairs}
 use Rattle.closing.proofs.twins.paired.Statement.{statement}
 use Rattle.closing.proofs.twins.paired.Tie as tie
 
@@ -20,19 +22,21 @@ loop-holds c = (omega arith, below-none _)
 way-requires : tie.Need-way-requires Inv-loop μ-loop
 way-requires c κs = omega arith
 
-mul-k : tie.Need-mul-k Inv-loop μ-loop
-mul-k c =
+-- the two ways in the place at hand are boards
+board : (c : tie.After-way Inv-loop μ-loop) → c .way .result < c .before .before .before .before .before .before .args .v
+board c =
     let start = c .before .before .before .before .before .before in
-    let ways = start .args .ways .now in
-    record {
-      fits =
-          omega (
-            arith,
-            square-small (start .args .v) (start .pre .0 .boards),
-            pair-in (start .args .v) ways ways (c .before .before .loop .i) (c .way .ensures) (c .way .ensures) (start .pre .1) (start .pre .1) refl
-                (c .before .loop-test .taken),
-          );
-    }
+    omega (arith, c .way .ensures, start .pre .1 (c .before .before .loop .i) (c .before .loop-test .taken))
+
+other : (c : tie.After-way2 Inv-loop μ-loop) → c .way2 .result < c .before .before .before .before .before .before .before .args .v
+other c =
+    let start = c .before .before .before .before .before .before .before in
+    let i = c .before .before .before .loop .i in
+    let inner : i < length (start .args .others .now) = omega (arith, start .pre .3) in
+    omega (arith, c .way2 .ensures, start .pre .2 i inner)
+
+mul-k : tie.Need-mul-k Inv-loop μ-loop
+mul-k c = record { fits = omega (arith, place-few (c .before .before .before .before .before .before .pre .0 .boards) (board c) (board c)) }
 
 way-requires-2 : tie.Need-way-requires-2 Inv-loop μ-loop
 way-requires-2 c κs =
@@ -41,29 +45,16 @@ way-requires-2 c κs =
 
 add-k : tie.Need-add-k Inv-loop μ-loop
 add-k c =
-    let start = c .before .before .before .before .before .before .before in
-    record {
-      fits =
-          omega (
-            arith,
-            square-small (start .args .v) (start .pre .0 .boards),
-            pair-in (start .args .v) (start .args .ways .now) (start .args .others .now) (c .before .before .before .loop .i)
-                (c .before .way .ensures) (c .way2 .ensures) (start .pre .1) (start .pre .2) (start .pre .3) (c .before .before .loop-test .taken),
-          );
-    }
+    record { fits = omega (arith, place-few (c .before .before .before .before .before .before .before .pre .0 .boards) (board (c .before)) (other c)) }
 
 shared-slice-read-meet : tie.Need-shared-slice-read-meet Inv-loop μ-loop
 shared-slice-read-meet c =
-    let start = c .before .before .before .before .before .before .before .before in
-    rw (start .pre .0 .table .cells)
-    (pair-in (start .args .v) (start .args .ways .now) (start .args .others .now) (c .before .before .before .before .loop .i)
-    (c .before .before .way .ensures) (c .before .way2 .ensures) (start .pre .1) (start .pre .2) (start .pre .3)
-    (c .before .before .before .loop-test .taken))
+    ready-place (c .before .before .before .before .before .before .before .before .pre .0) (board (c .before .before)) (other (c .before))
 
 meet-requires : tie.Need-meet-requires Inv-loop μ-loop
 meet-requires c κs =
     let start = c .before .before .before .before .before .before .before .before in
-    (start .pre .0 .table .small (start .args .v * c .before .before .way .result + c .before .way2 .result), E-small)
+    (start .pre .0 .table .small (start .args .v * c .before .before .way .result + c .before .way2 .result), single-small same-small)
 
 returns : tie.Need-returns Inv-loop μ-loop
 returns c =

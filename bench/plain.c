@@ -1,0 +1,436 @@
+/* Closing a table in plain C, by the product's method: the same passes in the same order. */
+#include "plain.h"
+
+/* Sets of relations: same board, above, below, side, and all of them. */
+enum {
+    E = 1,
+    A = 2,
+    B = 4,
+    S = 8,
+    FULL = 15,
+    AT_OR_ABOVE = 3,
+    NOT_ABOVE = 13,
+    NOT_SAME = 14
+};
+
+/* The limits of a description. */
+enum {
+    HEADER_WORDS = 6,
+    HEAD_WORDS = 3,
+    MOST_BOARDS = 16,
+    MOST_LINES = 128,
+    MOST_KINDS = 16,
+    MOST_WORDS = 15,
+    MOST_WAYS = 8,
+    MOST_CELLS = 256
+};
+
+/* Refusals. */
+enum {
+    OUT_OF_RANGE = 1,
+    MISPLACED = 2,
+    UNFIT = 3,
+    NO_BOARD = 4,
+    NO_EXPRESSION = 5,
+    NO_TABLE = 6,
+    CONTRADICTORY = 7
+};
+
+/* The codes of an expression's operators; those below union stand for E, A, B and S. */
+enum {
+    UNION = 4,
+    COMPLEMENT = 6,
+    INVERSE = 7
+};
+
+struct header {
+    size_t boards;
+    size_t lines;
+    size_t kinds;
+    size_t middle;
+};
+
+/* The relation of p to q is one of the allowed. */
+struct relation_line {
+    size_t p;
+    size_t q;
+    uint8_t allowed;
+    size_t length;
+};
+
+/* p is a panel of this code, and feeds exactly these ways. */
+struct kind_line {
+    size_t p;
+    uint16_t code;
+    size_t count;
+    const uint16_t *ways;
+};
+
+static const uint8_t relations[4] = {E, A, B, S};
+
+/* Each set the other way round: A and B exchanged. */
+static const uint8_t converses[16] = {0, 1, 4, 5, 2, 3, 6, 7, 8, 9, 12, 13, 10, 11, 14, 15};
+
+/* What two sets compose to: that of x and y stands at 16 times x plus y. */
+static const uint8_t compositions[256] = {
+    0,  0,  0,  0,  0,  0,  0,  0,  0,  0,  0,  0,  0,  0,  0,  0,
+    0,  1,  2,  3,  4,  5,  6,  7,  8,  9,  10, 11, 12, 13, 14, 15,
+    0,  2,  2,  2,  7,  7,  7,  7,  10, 10, 10, 10, 15, 15, 15, 15,
+    0,  3,  2,  3,  7,  7,  7,  7,  10, 11, 10, 11, 15, 15, 15, 15,
+    0,  4,  15, 15, 4,  4,  15, 15, 8,  12, 15, 15, 12, 12, 15, 15,
+    0,  5,  15, 15, 4,  5,  15, 15, 8,  13, 15, 15, 12, 13, 15, 15,
+    0,  6,  15, 15, 7,  7,  15, 15, 10, 14, 15, 15, 15, 15, 15, 15,
+    0,  7,  15, 15, 7,  7,  15, 15, 10, 15, 15, 15, 15, 15, 15, 15,
+    0,  8,  8,  8,  12, 12, 12, 12, 15, 15, 15, 15, 15, 15, 15, 15,
+    0,  9,  10, 11, 12, 13, 14, 15, 15, 15, 15, 15, 15, 15, 15, 15,
+    0,  10, 10, 10, 15, 15, 15, 15, 15, 15, 15, 15, 15, 15, 15, 15,
+    0,  11, 10, 11, 15, 15, 15, 15, 15, 15, 15, 15, 15, 15, 15, 15,
+    0,  12, 15, 15, 12, 12, 15, 15, 15, 15, 15, 15, 15, 15, 15, 15,
+    0,  13, 15, 15, 12, 13, 15, 15, 15, 15, 15, 15, 15, 15, 15, 15,
+    0,  14, 15, 15, 15, 15, 15, 15, 15, 15, 15, 15, 15, 15, 15, 15,
+    0,  15, 15, 15, 15, 15, 15, 15, 15, 15, 15, 15, 15, 15, 15, 15,
+};
+
+/* Reads the expression at the front of the words. Answers where the words after it begin, or null if there is none. */
+static const uint16_t *evaluate(const uint16_t *at, const uint16_t *end, uint8_t *set)
+{
+    if (at == end)
+        return 0;
+    uint16_t code = *at++;
+    if (code < UNION) {
+        *set = relations[code];
+        return at;
+    }
+    if (code > INVERSE)
+        return 0;
+    uint8_t x;
+    at = evaluate(at, end, &x);
+    if (!at)
+        return 0;
+    if (code == COMPLEMENT) {
+        *set = FULL - x;
+        return at;
+    }
+    if (code == INVERSE) {
+        *set = converses[x];
+        return at;
+    }
+    uint8_t y;
+    at = evaluate(at, end, &y);
+    if (!at)
+        return 0;
+    *set = code == UNION ? x | y : x & y;
+    return at;
+}
+
+/* Reads the relation line at the front of n words, for boards below v. Answers 0 or the refusal. */
+static int read_relation_line(size_t v, const uint16_t *words, size_t n, struct relation_line *line)
+{
+    if (n < HEAD_WORDS)
+        return UNFIT;
+    size_t length = words[2];
+    if (length < 1 || length > MOST_WORDS || length > n - HEAD_WORDS)
+        return UNFIT;
+    if (words[0] >= v || words[1] >= v)
+        return NO_BOARD;
+    const uint16_t *end = words + HEAD_WORDS + length;
+    if (evaluate(words + HEAD_WORDS, end, &line->allowed) != end)
+        return NO_EXPRESSION;
+    line->p = words[0];
+    line->q = words[1];
+    line->length = HEAD_WORDS + length;
+    return 0;
+}
+
+/* Steps to the kind line at the front of the words, which has been read before. Answers where the words after it begin. */
+static const uint16_t *next_kind_line(const uint16_t *words, struct kind_line *line)
+{
+    line->p = words[0];
+    line->code = words[1];
+    line->count = words[2];
+    line->ways = words + HEAD_WORDS;
+    return line->ways + line->count;
+}
+
+static int read_header(const uint16_t *words, size_t n, struct header *h)
+{
+    if (n < HEADER_WORDS)
+        return OUT_OF_RANGE;
+    h->boards = words[0];
+    h->lines = words[1];
+    h->kinds = words[2];
+    h->middle = words[4];
+    if (h->boards < 1 || h->boards > MOST_BOARDS || h->lines > MOST_LINES || h->kinds > MOST_KINDS)
+        return OUT_OF_RANGE;
+    if (words[3] != HEADER_WORDS || h->middle < HEADER_WORDS || h->middle > words[5] || words[5] != n)
+        return MISPLACED;
+    return 0;
+}
+
+/* Reads as many relation lines as this. They must fill the n words. */
+static int read_relation_lines(size_t v, size_t count, const uint16_t *words, size_t n)
+{
+    size_t at = 0;
+    for (size_t i = 0; i < count; i++) {
+        struct relation_line line;
+        int refusal = read_relation_line(v, words + at, n - at, &line);
+        if (refusal)
+            return refusal;
+        at += line.length;
+    }
+    return at < n ? UNFIT : 0;
+}
+
+/* Reads the kind line at the front of n words, for boards below v. */
+static int read_kind_line(size_t v, const uint16_t *words, size_t n)
+{
+    if (n < HEAD_WORDS)
+        return UNFIT;
+    size_t ways = words[2];
+    if (ways > MOST_WAYS || ways > n - HEAD_WORDS)
+        return UNFIT;
+    if (words[0] >= v)
+        return NO_BOARD;
+    for (size_t i = 0; i < ways; i++) {
+        if (words[HEAD_WORDS + i] >= v)
+            return NO_BOARD;
+    }
+    return 0;
+}
+
+/* Reads as many kind lines as this. They must fill the n words. */
+static int read_kind_lines(size_t v, size_t count, const uint16_t *words, size_t n)
+{
+    size_t at = 0;
+    for (size_t i = 0; i < count; i++) {
+        int refusal = read_kind_line(v, words + at, n - at);
+        if (refusal)
+            return refusal;
+        at += HEAD_WORDS + words[at + 2];
+    }
+    return at < n ? UNFIT : 0;
+}
+
+/* Reads a whole description. Answers 0 or the first refusal. */
+static int read_description(const uint16_t *words, size_t n, struct header *h)
+{
+    int refusal = read_header(words, n, h);
+    if (refusal)
+        return refusal;
+    refusal = read_relation_lines(h->boards, h->lines, words + HEADER_WORDS, h->middle - HEADER_WORDS);
+    if (refusal)
+        return refusal;
+    return read_kind_lines(h->boards, h->kinds, words + h->middle, n - h->middle);
+}
+
+/* Narrows one cell to what the bound has too. Answers how many relations that struck. */
+static int narrow(uint8_t *cell, uint8_t bound)
+{
+    uint8_t was = *cell;
+    uint8_t is = was & bound;
+    if (is == was)
+        return 0;
+    *cell = is;
+    return __builtin_popcount(was) - __builtin_popcount(is);
+}
+
+/* Each board is the same as itself. */
+static int diagonal(size_t v, uint8_t *cells)
+{
+    int struck = 0;
+    for (size_t p = 0; p < v; p++)
+        struck += narrow(&cells[v * p + p], E);
+    return struck;
+}
+
+/* Each relation line's cell lies within its set. */
+static int relation_lines(size_t v, size_t count, const uint16_t *words, size_t n, uint8_t *cells)
+{
+    int struck = 0;
+    size_t at = 0;
+    for (size_t i = 0; i < count; i++) {
+        struct relation_line line;
+        if (read_relation_line(v, words + at, n - at, &line))
+            return struck;
+        struck += narrow(&cells[v * line.p + line.q], line.allowed);
+        at += line.length;
+    }
+    return struck;
+}
+
+/* The ways of each kind line lie below its panel and beside each other. */
+static int spreads(size_t v, size_t count, const uint16_t *words, uint8_t *cells)
+{
+    int struck = 0;
+    for (size_t l = 0; l < count; l++) {
+        struct kind_line line;
+        words = next_kind_line(words, &line);
+        for (size_t i = 0; i < line.count; i++) {
+            size_t y = line.ways[i];
+            struck += narrow(&cells[v * line.p + y], A);
+            for (size_t j = 0; j < line.count; j++)
+                struck += narrow(&cells[v * y + line.ways[j]], i == j ? FULL : S);
+        }
+    }
+    return struck;
+}
+
+/* Each pair of boards is the same seen from both sides. */
+static int turn(size_t v, uint8_t *cells)
+{
+    int struck = 0;
+    for (size_t p = 0; p < v; p++) {
+        for (size_t q = 0; q < v; q++)
+            struck += narrow(&cells[v * q + p], converses[cells[v * p + q]]);
+    }
+    return struck;
+}
+
+/* The first place from this one on whose way may be at or above the board z, or the number of ways if there is none. */
+static size_t reaching(size_t v, const struct kind_line *line, size_t z, size_t from, const uint8_t *cells)
+{
+    size_t i = from;
+    while (i < line->count && !(cells[v * line->ways[i] + z] & AT_OR_ABOVE))
+        i++;
+    return i;
+}
+
+/* What is below the panel is at or below one of its ways: for the board z. */
+static int feed(size_t v, const struct kind_line *line, size_t z, uint8_t *cells)
+{
+    uint8_t *cell = &cells[v * line->p + z];
+    if (!(*cell & A))
+        return 0;
+    size_t i = reaching(v, line, z, 0, cells);
+    if (i == line->count)
+        return narrow(cell, NOT_ABOVE);
+    if (*cell != A || reaching(v, line, z, i + 1, cells) < line->count)
+        return 0;
+    return narrow(&cells[v * line->ways[i] + z], AT_OR_ABOVE);
+}
+
+/* What is below a panel is at or below one of its ways. */
+static int panels(size_t v, size_t count, const uint16_t *words, uint8_t *cells)
+{
+    int struck = 0;
+    for (size_t l = 0; l < count; l++) {
+        struct kind_line line;
+        words = next_kind_line(words, &line);
+        for (size_t z = 0; z < v; z++)
+            struck += feed(v, &line, z, cells);
+    }
+    return struck;
+}
+
+/* Ways in the same place may all be the same. */
+static int paired(size_t v, const struct kind_line *line, const struct kind_line *other, const uint8_t *cells)
+{
+    for (size_t i = 0; i < line->count; i++) {
+        if (!(cells[v * line->ways[i] + other->ways[i]] & E))
+            return 0;
+    }
+    return 1;
+}
+
+/* Two kind lines: if their panels are the same, so are their codes and their ways. */
+static int twin(size_t v, const struct kind_line *line, const struct kind_line *other, uint8_t *cells)
+{
+    uint8_t *cell = &cells[v * line->p + other->p];
+    if (!(*cell & E))
+        return 0;
+    if (line->code != other->code || line->count != other->count || !paired(v, line, other, cells))
+        return narrow(cell, NOT_SAME);
+    if (*cell != E)
+        return 0;
+    int struck = 0;
+    for (size_t i = 0; i < line->count; i++)
+        struck += narrow(&cells[v * line->ways[i] + other->ways[i]], E);
+    return struck;
+}
+
+/* Panels that are the same have one code and the same ways. */
+static int twins(size_t v, size_t count, const uint16_t *words, uint8_t *cells)
+{
+    int struck = 0;
+    const uint16_t *at = words;
+    for (size_t i = 0; i < count; i++) {
+        struct kind_line line;
+        at = next_kind_line(at, &line);
+        const uint16_t *beside = words;
+        for (size_t j = 0; j < count; j++) {
+            struct kind_line other;
+            beside = next_kind_line(beside, &other);
+            struck += twin(v, &line, &other, cells);
+        }
+    }
+    return struck;
+}
+
+/* Each three boards: the first to the third is what the second allows. Answers the number struck, or -1 at once when a cell is empty. */
+static int sweep(size_t v, uint8_t *cells)
+{
+    int struck = 0;
+    for (size_t p = 0; p < v; p++) {
+        for (size_t q = 0; q < v; q++) {
+            for (size_t r = 0; r < v; r++) {
+                uint8_t *cell = &cells[v * p + r];
+                struck += narrow(cell, compositions[16 * cells[v * p + q] + cells[v * q + r]]);
+                if (*cell == 0)
+                    return -1;
+            }
+        }
+    }
+    return struck;
+}
+
+/* Rounds of the rules whose bounds depend on the table, until a round strikes nothing. Answers the number struck, or -1 if a cell is empty. */
+static int rounds(size_t v, size_t count, const uint16_t *words, uint8_t *cells)
+{
+    int struck = 0;
+    for (;;) {
+        int more = turn(v, cells);
+        more += panels(v, count, words, cells);
+        more += twins(v, count, words, cells);
+        int swept = sweep(v, cells);
+        if (swept < 0)
+            return -1;
+        more += swept;
+        if (more == 0)
+            return struck;
+        struck += more;
+    }
+}
+
+/* Closes the cells under the description. Answers the number struck, or -1 if a cell is empty. */
+static int settle(const struct header *h, const uint16_t *words, uint8_t *cells)
+{
+    size_t v = h->boards;
+    const uint16_t *kinds = words + h->middle;
+    int struck = diagonal(v, cells);
+    struck += relation_lines(v, h->lines, words + HEADER_WORDS, h->middle - HEADER_WORDS, cells);
+    struck += spreads(v, h->kinds, kinds, cells);
+    int more = rounds(v, h->kinds, kinds, cells);
+    return more < 0 ? -1 : struck + more;
+}
+
+uint64_t plain_close(const uint16_t *words, size_t n, uint8_t *table, size_t m)
+{
+    struct header h;
+    int refusal = read_description(words, n, &h);
+    if (refusal)
+        return refusal;
+    if (m != h.boards * h.boards)
+        return NO_TABLE;
+    uint8_t cells[MOST_CELLS];
+    for (size_t i = 0; i < m; i++) {
+        if (table[i] > FULL)
+            return NO_TABLE;
+        cells[i] = table[i];
+    }
+    int struck = settle(&h, words, cells);
+    if (struck < 0)
+        return CONTRADICTORY;
+    for (size_t i = 0; i < m; i++)
+        table[i] = cells[i];
+    return 256 * (uint64_t)struck;
+}

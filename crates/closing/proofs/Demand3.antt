@@ -1,0 +1,170 @@
+-- Demand 3, sentence by sentence, of what the call `close` promises and of nothing else: whatever it may answer and leave by its contract.
+-- Assumes nothing.
+use mathlib.Core.Path.{_≡_, refl, sym, ap, _∙_, subst}
+use mathlib.Core.Bool.{Bool, true, false, _||_}
+use mathlib.Core.Logic.{_⊎_, inl, inr, ⊎-elim, _↔_}
+use mathlib.Core.List.{List, [], _∷_, List·Memᴰ, List·Memᴰ·head, List·Memᴰ·tail, List·Memᴰ·cases-cons, List·Memᴰ·eq-of-singleton}
+use Prim.Native.Nat.{ℕ, _+_, _≤_}
+use native.Mathlib.Omega.{arith}
+use lib.Dec.{T, eqb, not-T}
+use Rattle.rules.specs.Descriptions.{Sheet, good, read}
+use Rattle.rules.specs.Tables.{Table, Inside, emptied, total}
+use Rattle.rules.specs.Arrangements.{Arrangement}
+use Rattle.rules.specs.Closed.{Largest, strikes}
+use Rattle.rules.specs.Closing.{closing}
+use Rattle.rules.specs.Stages.{left, Run, Stages}
+use Rattle.rules.specs.Calls.{Outcome, close}
+use Rattle.rules.proofs.Tests.{true-T}
+use Rattle.rules.proofs.Inside.{emptied-inside}
+use Rattle.rules.proofs.Largest.{closing-largest, largest-unique}
+use Rattle.rules.proofs.Arrangements.{arrangement-kept, arrangement-whole}
+use Rattle.rules.proofs.Stages.{stages-clash, stages-table}
+use Rattle.rules.proofs.Descriptions.{read-wellFormed}
+use Rattle.rules.proofs.Calls.{strikes-counted, strikes-most}
+use Rattle.answers.specs.declared.Answer.{Answer}
+use Rattle.answers.specs.Answers.{outcome}
+use Rattle.closing.specs.Runs.{Stage, sheets, Closing, contradictory, Called}
+use Rattle.closing.proofs.Closings.{by-cells, close-good}
+
+-- what an answer says and what is left, by whether the largest closed table has an empty cell
+record Ends (s : Sheet) (t : List ℕ) (a : Answer) (w : List ℕ) (b : Bool) : Type 0 where
+  empty : emptied (closing s t) ≡ b
+  leaves : w ≡ left b t (closing s t)
+  says : contradictory a ≡ b
+  number : a .number ≡ elim b [ true ↦ 7 | false ↦ 0 ]
+  count : a .count ≡ elim b [ true ↦ 0 | false ↦ strikes t (closing s t) ]
+
+module _ (ws : List ℕ) (s : Sheet) (means : read ws ≡ good s) (t : List ℕ) (table : Table (s .boards) t) (a : Answer) (w : List ℕ) (call : Closing ws t a w) where
+  ends : (b : Bool) × Ends s t a w b
+  ends = go (emptied (closing s t)) refl (call ∙ close-good ws t s means table)
+    where
+      at-end : (b : Bool) → emptied (closing s t) ≡ b → outcome a w ≡ by-cells ws t s b → (p : left b t (closing s t) ≡ by-cells ws t s b .table)
+          → (eqb (by-cells ws t s b .number) 7 ≡ b) → (by-cells ws t s b .number ≡ elim b [ true ↦ 7 | false ↦ 0 ])
+          → (by-cells ws t s b .count ≡ elim b [ true ↦ 0 | false ↦ strikes t (closing s t) ]) → Ends s t a w b
+      at-end b e o p q n c =
+          record {
+            empty = e;
+            leaves = ap (λ (o : Outcome). o .table) o ∙ sym p;
+            says = ap (λ (o : Outcome). eqb (o .number) 7) o ∙ q;
+            number = ap (λ (o : Outcome). o .number) o ∙ n;
+            count = ap (λ (o : Outcome). o .count) o ∙ c;
+          }
+
+      go : (b : Bool) → emptied (closing s t) ≡ b → outcome a w ≡ by-cells ws t s b → (b : Bool) × Ends s t a w b
+      go true e o = (true, at-end true e o refl refl refl refl)
+      go false e o = (false, at-end false e o refl refl refl refl)
+
+  the-closing : Largest s t (closing s t)
+  the-closing = closing-largest s t table
+
+  -- Closing a well-formed table under a well-formed description answers 0 or 7, and nothing else.
+  pub closing-answers : (a .number ≡ 0) ⊎ (a .number ≡ 7)
+  closing-answers = go (ends .0) (ends .1 .number)
+    where
+      go : (b : Bool) → a .number ≡ elim b [ true ↦ 7 | false ↦ 0 ] → (a .number ≡ 0) ⊎ (a .number ≡ 7)
+      go true e = inr e
+      go false e = inl e
+
+  module _ (closed : a .number ≡ 0) where
+    done : (emptied (closing s t) ≡ false) × (w ≡ closing s t) × (a .count ≡ strikes t (closing s t))
+    done = go (ends .0) (ends .1)
+      where
+        go : (b : Bool) → Ends s t a w b → (emptied (closing s t) ≡ false) × (w ≡ closing s t) × (a .count ≡ strikes t (closing s t))
+        go true e = let z : _≡_ {A = ℕ} 7 0 = sym (e .number) ∙ closed in let y : ⊥ = omega arith in absurd y
+        go false e = (e .empty, e .leaves, e .count)
+
+    -- It gives the largest table inside it that obeys every rule,
+    pub closing-largest-table : Largest s t w
+    closing-largest-table = subst (Largest s t) (sym (done .1)) the-closing
+
+    -- and reports how many relations it struck,
+    pub closing-counted : a .count + total w ≡ total t
+    closing-counted = rw (done .2, done .1) (strikes-counted (the-closing .inside))
+
+    -- from 0 to 768.
+    pub closing-count-most : a .count ≤ 768
+    closing-count-most =
+        rw (done .2)
+        (strikes-most (read-wellFormed ws s means .boards .1) table (the-closing .table) (not-T (emptied (closing s t)) (λ e. subst T (done .0) e)))
+
+  -- It loses no arrangement.
+  pub closing-loses-none : (x : List ℕ) → Arrangement s x → Inside x t → (a .number ≡ 0) × Inside x w
+  closing-loses-none x r i = go (ends .0) (ends .1)
+    where
+      kept : Inside x (closing s t)
+      kept = arrangement-kept (read-wellFormed ws s means) the-closing r i
+
+      go : (b : Bool) → Ends s t a w b → (a .number ≡ 0) × Inside x w
+      go true e = absurd (arrangement-whole r (emptied-inside (r .table) kept (true-T (e .empty))))
+      go false e = (e .number, subst (Inside x) (sym (e .leaves)) kept)
+
+  -- It is contradictory exactly when that largest table has an empty cell.
+  pub closing-contradictory : (u : List ℕ) → Largest s t u → (a .number ≡ 7) ↔ T (emptied u)
+  closing-contradictory u l = go (ends .0) (ends .1)
+    where
+      same : closing s t ≡ u
+      same = largest-unique the-closing l
+
+      go : (b : Bool) → Ends s t a w b → (a .number ≡ 7) ↔ T (emptied u)
+      go true e = (λ n. subst (λ (v : List ℕ). T (emptied v)) same (true-T (e .empty)), λ t. e .number)
+      go false e = (
+        λ n. let z : _≡_ {A = ℕ} 0 7 = sym (e .number) ∙ n in let y : ⊥ = omega arith in absurd y,
+        λ t. absurd (subst T (sym (ap emptied same) ∙ e .empty) t),
+      )
+
+-- ---- stages
+
+module _ {v : ℕ} where
+  -- calls whose descriptions have v boards are a run of closings
+  run : (gs : List Stage) → ((g : Stage) → List·Memᴰ g gs → g .sheet .boards ≡ v) → (t w : List ℕ) (c : Bool) → Table v t → Called gs t w c
+      → Run (sheets gs) t w c
+  unfolding Called Run
+  run [] f t w c h r = r
+  run (g ∷ gs) f t w c h r =
+      let table = subst (λ (n : ℕ). Table n t) (sym (f g (List·Memᴰ·head refl))) h in
+      let e = ends (g .words) (g .sheet) (g .means) t table (r .0) (r .1) (r .3) in
+      step (e .0) (e .1) (closing-largest (g .sheet) t table) (λ x y d k q. run gs (λ x m. f x (List·Memᴰ·tail m)) x y d k q)
+    where
+      step : (b : Bool) → Ends (g .sheet) t (r .0) (r .1) b → Largest (g .sheet) t (closing (g .sheet) t)
+          → ((x y : List ℕ) (d : Bool) → Table v x → Called gs x y d → Run (sheets gs) x y d)
+          → (u : List ℕ) × (d : Bool) × Largest (g .sheet) t u × Run (sheets gs) (left (emptied u) t u) w d × (c ≡ (emptied u || d))
+      step b e l k = (
+        closing (g .sheet) t,
+        r .2,
+        l,
+        k (left (emptied (closing (g .sheet) t)) t (closing (g .sheet) t)) w (r .2) (stays (emptied (closing (g .sheet) t)))
+            (subst (λ (x : List ℕ). Called gs x w (r .2)) (e .leaves ∙ ap (λ (b : Bool). left b t (closing (g .sheet) t)) (sym (e .empty))) (r .4)),
+        r .5 ∙ ap (λ (b : Bool). b || r .2) (e .says ∙ sym (e .empty)),
+      )
+        where
+          stays : (b : Bool) → Table v (left b t (closing (g .sheet) t))
+          stays true = h
+          stays false = subst (λ (n : ℕ). Table n (closing (g .sheet) t)) (f g (List·Memᴰ·head refl)) (l .table)
+
+-- each stage has the boards of the whole
+same-boards : (s : Sheet) (gs : List Stage) → Stages s (sheets gs) → (g : Stage) → List·Memᴰ g gs → g .sheet .boards ≡ s .boards
+unfolding Stages
+same-boards s [] r g m = absurd r
+same-boards s (h ∷ []) r g m = subst (λ (k : Stage). k .sheet .boards ≡ s .boards) (sym (List·Memᴰ·eq-of-singleton m)) (r .0 .boards)
+same-boards s (h ∷ i ∷ gs) r g m =
+    ⊎-elim (λ (e : g ≡ h). subst (λ (k : Stage). k .sheet .boards ≡ s .boards) (sym e) (r .0 .boards)) (same-boards s (i ∷ gs) (r .1) g) (List·Memᴰ·cases-cons m)
+
+-- One call under all the lines, and any run of calls under some of them, in any order, the last under all.
+module _ (one : Stage) (gs : List Stage) (stages : Stages (one .sheet) (sheets gs)) (t : List ℕ) (table : Table (one .sheet .boards) t)
+    (a : Answer) (u : List ℕ) (single : Closing (one .words) t a u) (w : List ℕ) (c : Bool) (called : Called gs t w c) where
+  once : (b : Bool) × Ends (one .sheet) t a u b
+  once = ends (one .words) (one .sheet) (one .means) t table a u single
+
+  the-run : Run (sheets gs) t w c
+  the-run = run gs (same-boards (one .sheet) gs stages) t w c table called
+
+  -- Closing in stages, in any order of lines, gives the same table as closing once, unless that is contradictory;
+  pub stages-same-table : a .number ≡ 0 → w ≡ u
+  stages-same-table n =
+      let d = done (one .words) (one .sheet) (one .means) t table a u single n in
+      stages-table (sheets gs) stages t w c (closing-largest (one .sheet) t table) the-run (d .0) ∙ sym (d .1)
+
+  -- some stage is contradictory exactly when the single closing is.
+  pub stages-contradictory : c ≡ contradictory a
+  stages-contradictory =
+      sym (stages-clash (sheets gs) stages t w c (closing-largest (one .sheet) t table) the-run) ∙ once .1 .empty ∙ sym (once .1 .says)

@@ -1,0 +1,2 @@
+-- How an answer is packed in one number.
+pub mod Packed

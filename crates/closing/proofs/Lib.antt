@@ -1,12 +1,12 @@
--- The laws behind the functions of this crate.
-pub mod Sweeping
+-- The laws behind the functions of this crate, and what its one call is shown to do.
 pub mod Settling
-pub mod Twinning
-pub mod Closings
-pub mod Passing
+pub mod Sweeping
 pub mod Spreading
 pub mod Feeding
+pub mod Twinning
+pub mod Passing
 pub mod Copies
+pub mod Closings
+pub mod Determined
 pub mod Demand3
 pub mod Refuted
-pub mod Determined

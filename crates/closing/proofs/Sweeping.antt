@@ -3,15 +3,17 @@ use mathlib.Core.Path.{_≡_, ap, _∙_}
 use mathlib.Core.List.{List, _++_, flatMap, List·Memᴰ}
 use Prim.Native.Nat.{ℕ, _+_, _*_, _<_}
 use native.Mathlib.Omega.{arith}
-use lib.ListN.{getD}
+use lib.Dec.{not-T}
+use lib.ListN.{length, getD}
 use Rattle.rules.specs.Relations.{E, converse, compose}
-use Rattle.rules.specs.Tables.{cell, upTo}
+use Rattle.rules.specs.Tables.{cell, emptied, upTo}
 use Rattle.rules.specs.Closing.{Rule, lies, boardsOf, rules3}
-use Rattle.rules.proofs.Members.{All, all-append, all-over, over-all, upTo-in, upTo-out}
+use Rattle.rules.proofs.Members.{All, one-all, all-append, all-over, over-all, upTo-in, upTo-out}
 use Rattle.rules.proofs.Composition.{converse-mono, compose-mono}
-use Rattle.rules.proofs.Inside.{inside-refl, emptied-in}
+use Rattle.rules.proofs.Inside.{each-place, emptied-in, emptied-out}
 use Rattle.passes.specs.Passes.{Idles, Narrowed, Ready, Kept, Pass, Quiet, Sound, Once, Clash}
 use Rattle.passes.proofs.Passes.{kept-then, kept-as, kept-strike, kept-clash, pass-next, pass-strike, once-next, once-strike, ready-place, ready-kept}
+use Rattle.closing.proofs.Settling.{Sees}
 
 -- ---- each board
 
@@ -63,7 +65,7 @@ module _ {v : ℕ} {t w x : List ℕ} {p : ℕ} (q : ℕ) {r a b c n : ℕ} (o :
   pub through-kept : Kept v (flatMap (through v p q) (upTo r) ++ through v p q r) t a x (b + n)
   through-kept =
       kept-then (flatMap (through v p q) (upTo r)) (k .kept)
-      (kept-strike _ (λ u s i. compose-mono (i .each (v * p + q)) (i .each (v * q + r))) w (k .kept .table) (inside-refl w)
+      (kept-strike _ (λ u s i. compose-mono (i .each (v * p + q)) (i .each (v * q + r))) (k .kept .table)
       (ready-place (ready-kept o (k .kept)) hp hr) e m)
 
   -- a cell that is empty after the strike
@@ -87,3 +89,14 @@ module _ {v : ℕ} {t w x : List ℕ} {p : ℕ} (q : ℕ) {r a b c n : ℕ} (o :
             (all-over _ _ (upTo q) (λ j n. all-over _ _ (upTo v) (λ l o. part _ d p j l hp (less j n hq) (upTo-out v l o))))
             (all-append _ (flatMap (through v p q) (upTo r)) (all-over _ _ (upTo r) (λ l o. part _ d p q l hp hq (less l o hr)))
             (part _ d p q r hp hq hr)))
+
+-- the cells of each three boards are all cells
+pub threes-see : (v : ℕ) → Sees v (rules3 v)
+unfolding rules3
+threes-see v t h f = not-T (emptied t) (λ m. from (emptied-out t m))
+  where
+    each : (p r : ℕ) → p < v → r < v → getD t (v * p + r) 0 ≡ 0 → ⊥
+    each p r l m = one-all _ (over-all _ _ (upTo v) (over-all _ _ (upTo v) (over-all _ _ (upTo v) f p (upTo-in l)) p (upTo-in l)) r (upTo-in m)) .1
+
+    from : (i : ℕ) × (i < length t) × (getD t i 0 ≡ 0) → ⊥
+    from m = each-place (λ i. getD t i 0 ≡ 0 → ⊥) h each (m .0) (m .1) (m .2)

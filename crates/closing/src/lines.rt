@@ -12,7 +12,7 @@ use sheet::lines::RelationFound;
 use sheet::lines::kind_front;
 use sheet::lines::relation_line;
 
-// Each relation line's cell lies within its set.
+// Each relation line's cell lies within its set. It ends early only where a line is refused, and then nothing is promised.
 pub(crate) fn relation_lines(v: usize, count: usize, words: &[u16], cells: &mut [u8]) -> u32
     requires { ⌜ Ready v (now cells) ⌝ }
     ensures { λ n. ⌜ WithLines v count (now (words .entry)) (λ ls. Once v (rules4 ls) (now (cells .entry)) 0 (now (cells .exit)) n) ⌝ }

@@ -21,7 +21,8 @@ pub(crate) fn rounds(v: usize, count: usize, words: &[u16], cells: &mut [u8]) ->
         let Swept::Struck(swept) = sweep(v, cells) else {
             return Swept::Emptied;
         };
-        let more = turned + fed + twinned + swept;
+        let this_side = fed + twinned + swept;
+        let more = turned + this_side;
         if more == 0 {
             return Swept::Struck(struck);
         }

@@ -8,7 +8,7 @@ use lib.Dec.{T, T-not}
 use lib.ListN.{length, getD}
 use Rattle.rules.specs.Relations.{relations, meet, size, _⊆_}
 use Rattle.rules.specs.Descriptions.{mostBoards}
-use Rattle.rules.specs.Tables.{Table, narrowed, Inside, emptied, total, range, upTo}
+use Rattle.rules.specs.Tables.{Table, narrowed, emptied, total, range, upTo}
 use Rattle.rules.specs.Closing.{Rule, Idle, lies}
 use Rattle.rules.proofs.Sets.{⊆-refl, ⊆-trans, meet-left, size-mono, ⊆-one}
 use Rattle.rules.proofs.Members.{All, all-none, all-one, one-all, all-append, append-left, append-right}
@@ -70,11 +70,10 @@ module _ {v : ℕ} where
   pub kept-tight : {rs : List Rule} {t w : List ℕ} {a b : ℕ} → Table v t → Kept v rs t a w b → b ≡ a → w ≡ t
   kept-tight h k e = let c = k .counted in total-tight (k .table) h (k .inside) (omega arith)
 
-  -- One law for every rule: a strike by a bound that grows with the table loses no table in which the rule strikes nothing. The bound may be that of an
-  -- earlier table u.
-  pub kept-strike : (r : Rule) → Grows (r .bound) → (u : List ℕ) {t w : List ℕ} {a b n : ℕ} → Table v t → Inside t u → v * r .row + r .column < length t
-      → b ≡ r .bound u → Narrowed t (v * r .row + r .column) b w n → Kept v (r ∷ []) t a w (a + n)
-  kept-strike r g u {t} {w} {a} {b} {n} h i l e m =
+  -- One law for every rule: a strike by a bound that grows with the table loses no table in which the rule strikes nothing.
+  pub kept-strike : (r : Rule) → Grows (r .bound) → {t w : List ℕ} {a b n : ℕ} → Table v t → v * r .row + r .column < length t → b ≡ r .bound t
+      → Narrowed t (v * r .row + r .column) b w n → Kept v (r ∷ []) t a w (a + n)
+  kept-strike r g {t} {w} {a} {b} {n} h l e m =
       let k = v * r .row + r .column in
       let c : size (meet (getD t k 0) b) ≤ size (getD t k 0) = size-mono (meet-left (getD t k 0) b) in
       let d : total (narrowed t k b) + size (getD t k 0) ≡ total t + size (meet (getD t k 0) b) = strike-total t k b l in
@@ -85,7 +84,7 @@ module _ {v : ℕ} where
         inside = strike-inside t k b;
         keeps =
             λ x j d.
-            strike-keeps t k b j (subst (λ (y : ℕ). getD x k 0 ⊆ y) (sym e) (⊆-trans (one-all (Idle v x) d) (g x u (inside-trans j i))));
+            strike-keeps t k b j (subst (λ (y : ℕ). getD x k 0 ⊆ y) (sym e) (⊆-trans (one-all (Idle v x) d) (g x t j)));
         counted = omega arith;
       })
 
@@ -141,7 +140,7 @@ module _ {v : ℕ} where
         → Pass Q v rs t 0 w n
     pass-struck rs r d g {t} {w} {b} {n} h l e m f =
         let k : Kept v (r ∷ []) t 0 w n =
-        subst (λ (c : ℕ). Kept v (r ∷ []) t 0 w c) (zero-add n) (kept-strike r g t h (inside-refl t) l e m) in
+        subst (λ (c : ℕ). Kept v (r ∷ []) t 0 w c) (zero-add n) (kept-strike r g h l e m) in
         record {
           kept = kept-as (λ x i. all-one (Idle v x) (d x i)) k;
           quiet =
@@ -189,7 +188,7 @@ module _ {v : ℕ} where
       → Once v (lies p q (λ t. b)) t a w (a + n)
   once-strike p q b {t} {w} {a} {n} h l m =
       record {
-        kept = kept-strike (record { row = p; column = q; bound = λ t. b }) (λ u t i. ⊆-refl b) t h (inside-refl t) l refl m;
+        kept = kept-strike (record { row = p; column = q; bound = λ t. b }) (λ u t i. ⊆-refl b) h l refl m;
         held =
             λ x i.
             all-one (Idle v x) (⊆-trans (i .each (v * p + q)) (subst (λ (y : List ℕ). getD y (v * p + q) 0 ⊆ b) (sym (m .cells)) (strike-within t (v * p + q) b)));

@@ -10,6 +10,7 @@ use Rattle.passes.proofs.Passes.{kept-start, kept-few, ready-kept}
 use Rattle.closing.specs.Lines.{WithKinds}
 use Rattle.closing.specs.Sweeps.{sweeping, moving}
 use Rattle.closing.proofs.Settling.{round, round-again, round-settled, round-clash}
+use Rattle.closing.proofs.Sweeping.{threes-see}
 use Rattle.closing.proofs.rounds.rounds.Statement.{statement}
 use Rattle.closing.proofs.rounds.rounds.Tie as tie
 
@@ -72,7 +73,33 @@ returns c = λ ks e.
     let p₁ = c .before .before .before .before .before .before .before .before .before .before .before .before .before .before .before .before .turn .ensures in
     let p₂ = c .before .before .before .before .before .before .before .before .before .before .before .before .panels .ensures ks e in
     let p₃ = c .before .before .before .before .before .before .before .before .twins .ensures ks e in
-    round-clash (rules2 v) (rules6 v ks) (rules7 v ks) ready p₁ p₂ p₃ (c .before .before .before .before .before .before .before .before .before .before .before .before .before .before .before .before .before .before .loop .inv ks e) (subst (sweeping v (rules3 v) _ _) (c .enum-told .given .1) (c .before .before .before .before .sweep .ensures))
+    round-clash (rules2 v) (rules6 v ks) (rules7 v ks) (rules3 v) ready p₁ p₂ p₃ (c .before .before .before .before .before .before .before .before .before .before .before .before .before .before .before .before .before .before .loop .inv ks e) (subst (sweeping v (rules3 v) _ _) (c .enum-told .given .1) (c .before .before .before .before .sweep .ensures))
+
+add-this-side : tie.Need-add-this-side Inv-loop μ-loop
+add-this-side c =
+    let start = c .before .before .before .before .before .before .before .before .before .before .before .before .before .before .before .before .before .before .before .before .before .before in
+    let v = start .args .v in
+    let ks = start .pre .1 .0 in
+    let e = start .pre .1 .1 in
+    let ready = ready-kept (start .pre .0) (c .before .before .before .before .before .before .before .before .before .before .before .before .before .before .before .before .before .before .before .loop .inv ks e) in
+    let p₁ = c .before .before .before .before .before .before .before .before .before .before .before .before .before .before .before .before .before .turn .ensures in
+    let p₂ = c .before .before .before .before .before .before .before .before .before .before .before .before .before .panels .ensures ks e in
+    let p₃ = c .before .before .before .before .before .before .before .before .before .twins .ensures ks e in
+    let p₄ = subst (sweeping v (rules3 v) _ _) (c .before .swept .given .1) (c .before .before .before .before .before .sweep .ensures) in
+    record { fits = omega (arith, kept-few ready (round (rules2 v) (rules6 v ks) (rules7 v ks) (rules3 v) ready p₁ p₂ p₃ p₄ .kept)) }
+
+add-this-side-2 : tie.Need-add-this-side-2 Inv-loop μ-loop
+add-this-side-2 c =
+    let start = c .before .before .before .before .before .before .before .before .before .before .before .before .before .before .before .before .before .before .before .before .before .before in
+    let v = start .args .v in
+    let ks = start .pre .1 .0 in
+    let e = start .pre .1 .1 in
+    let ready = ready-kept (start .pre .0) (c .before .before .before .before .before .before .before .before .before .before .before .before .before .before .before .before .before .before .before .loop .inv ks e) in
+    let p₁ = c .before .before .before .before .before .before .before .before .before .before .before .before .before .before .before .before .before .turn .ensures in
+    let p₂ = c .before .before .before .before .before .before .before .before .before .before .before .before .before .panels .ensures ks e in
+    let p₃ = c .before .before .before .before .before .before .before .before .before .twins .ensures ks e in
+    let p₄ = subst (sweeping v (rules3 v) _ _) (c .before .swept .given .1) (c .before .before .before .before .before .sweep .ensures) in
+    record { fits = omega (arith, kept-few ready (round (rules2 v) (rules6 v ks) (rules7 v ks) (rules3 v) ready p₁ p₂ p₃ p₄ .kept)) }
 
 add-more : tie.Need-add-more Inv-loop μ-loop
 add-more c =
@@ -85,33 +112,7 @@ add-more c =
     let p₂ = c .before .before .before .before .before .before .before .before .before .before .before .before .before .panels .ensures ks e in
     let p₃ = c .before .before .before .before .before .before .before .before .before .twins .ensures ks e in
     let p₄ = subst (sweeping v (rules3 v) _ _) (c .before .swept .given .1) (c .before .before .before .before .before .sweep .ensures) in
-    record { fits = omega (arith, kept-few ready (round (rules2 v) (rules6 v ks) (rules7 v ks) ready p₁ p₂ p₃ p₄ .kept)) }
-
-add-more-2 : tie.Need-add-more-2 Inv-loop μ-loop
-add-more-2 c =
-    let start = c .before .before .before .before .before .before .before .before .before .before .before .before .before .before .before .before .before .before .before .before .before .before in
-    let v = start .args .v in
-    let ks = start .pre .1 .0 in
-    let e = start .pre .1 .1 in
-    let ready = ready-kept (start .pre .0) (c .before .before .before .before .before .before .before .before .before .before .before .before .before .before .before .before .before .before .before .loop .inv ks e) in
-    let p₁ = c .before .before .before .before .before .before .before .before .before .before .before .before .before .before .before .before .before .turn .ensures in
-    let p₂ = c .before .before .before .before .before .before .before .before .before .before .before .before .before .panels .ensures ks e in
-    let p₃ = c .before .before .before .before .before .before .before .before .before .twins .ensures ks e in
-    let p₄ = subst (sweeping v (rules3 v) _ _) (c .before .swept .given .1) (c .before .before .before .before .before .sweep .ensures) in
-    record { fits = omega (arith, kept-few ready (round (rules2 v) (rules6 v ks) (rules7 v ks) ready p₁ p₂ p₃ p₄ .kept)) }
-
-add-more-3 : tie.Need-add-more-3 Inv-loop μ-loop
-add-more-3 c =
-    let start = c .before .before .before .before .before .before .before .before .before .before .before .before .before .before .before .before .before .before .before .before .before .before in
-    let v = start .args .v in
-    let ks = start .pre .1 .0 in
-    let e = start .pre .1 .1 in
-    let ready = ready-kept (start .pre .0) (c .before .before .before .before .before .before .before .before .before .before .before .before .before .before .before .before .before .before .before .loop .inv ks e) in
-    let p₁ = c .before .before .before .before .before .before .before .before .before .before .before .before .before .before .before .before .before .turn .ensures in
-    let p₂ = c .before .before .before .before .before .before .before .before .before .before .before .before .before .panels .ensures ks e in
-    let p₃ = c .before .before .before .before .before .before .before .before .before .twins .ensures ks e in
-    let p₄ = subst (sweeping v (rules3 v) _ _) (c .before .swept .given .1) (c .before .before .before .before .before .sweep .ensures) in
-    record { fits = omega (arith, kept-few ready (round (rules2 v) (rules6 v ks) (rules7 v ks) ready p₁ p₂ p₃ p₄ .kept)) }
+    record { fits = omega (arith, kept-few ready (round (rules2 v) (rules6 v ks) (rules7 v ks) (rules3 v) ready p₁ p₂ p₃ p₄ .kept)) }
 
 same-length-2 : tie.Need-same-length-2 Inv-loop μ-loop
 same-length-2 c =
@@ -135,7 +136,7 @@ returns-2 c = λ ks e.
     let p₂ = c .before .before .before .before .before .before .before .before .before .before .before .before .before .before .panels .ensures ks e in
     let p₃ = c .before .before .before .before .before .before .before .before .before .before .twins .ensures ks e in
     let p₄ = subst (sweeping v (rules3 v) _ _) (c .before .before .swept .given .1) (c .before .before .before .before .before .before .sweep .ensures) in
-    round-settled (rules2 v) (rules6 v ks) (rules7 v ks) ready p₁ p₂ p₃ p₄ (c .before .before .before .before .before .before .before .before .before .before .before .before .before .before .before .before .before .before .before .before .loop .inv ks e) (c .if1 .taken)
+    round-settled (rules2 v) (rules6 v ks) (rules7 v ks) (rules3 v) ready p₁ p₂ p₃ p₄ (c .before .before .before .before .before .before .before .before .before .before .before .before .before .before .before .before .before .before .before .before .loop .inv ks e) (threes-see v) (c .if1 .taken)
 
 add-struck : tie.Need-add-struck Inv-loop μ-loop
 add-struck c =
@@ -148,7 +149,7 @@ add-struck c =
     let p₂ = c .before .before .before .before .before .before .before .before .before .before .before .before .before .before .panels .ensures ks e in
     let p₃ = c .before .before .before .before .before .before .before .before .before .before .twins .ensures ks e in
     let p₄ = subst (sweeping v (rules3 v) _ _) (c .before .before .swept .given .1) (c .before .before .before .before .before .before .sweep .ensures) in
-    record { fits = omega (arith, kept-few (start .pre .0) (round-again (rules2 v) (rules6 v ks) (rules7 v ks) ready p₁ p₂ p₃ p₄ (c .before .before .before .before .before .before .before .before .before .before .before .before .before .before .before .before .before .before .before .before .loop .inv ks e))) }
+    record { fits = omega (arith, kept-few (start .pre .0) (round-again (rules2 v) (rules6 v ks) (rules7 v ks) (rules3 v) ready p₁ p₂ p₃ p₄ (c .before .before .before .before .before .before .before .before .before .before .before .before .before .before .before .before .before .before .before .before .loop .inv ks e))) }
 
 loop-less : tie.Need-loop-less Inv-loop μ-loop
 loop-less c =
@@ -161,7 +162,7 @@ loop-less c =
     let p₂ = c .before .before .before .before .before .before .before .before .before .before .before .before .before .before .panels .ensures ks e in
     let p₃ = c .before .before .before .before .before .before .before .before .before .before .twins .ensures ks e in
     let p₄ = subst (sweeping v (rules3 v) _ _) (c .before .before .swept .given .1) (c .before .before .before .before .before .before .sweep .ensures) in
-    let k = round (rules2 v) (rules6 v ks) (rules7 v ks) ready p₁ p₂ p₃ p₄ .kept .counted in
+    let k = round (rules2 v) (rules6 v ks) (rules7 v ks) (rules3 v) ready p₁ p₂ p₃ p₄ .kept .counted in
     let l = c .if1 .left in
     omega arith
 
@@ -174,7 +175,7 @@ loop-again c = λ ks e.
     let p₂ = c .before .before .before .before .before .before .before .before .before .before .before .before .before .before .panels .ensures ks e in
     let p₃ = c .before .before .before .before .before .before .before .before .before .before .twins .ensures ks e in
     let p₄ = subst (sweeping v (rules3 v) _ _) (c .before .before .swept .given .1) (c .before .before .before .before .before .before .sweep .ensures) in
-    round-again (rules2 v) (rules6 v ks) (rules7 v ks) ready p₁ p₂ p₃ p₄ (c .before .before .before .before .before .before .before .before .before .before .before .before .before .before .before .before .before .before .before .before .loop .inv ks e)
+    round-again (rules2 v) (rules6 v ks) (rules7 v ks) (rules3 v) ready p₁ p₂ p₃ p₄ (c .before .before .before .before .before .before .before .before .before .before .before .before .before .before .before .before .before .before .before .before .loop .inv ks e)
 
 pub rounds-spec : {M : Type 1} → statement M
 rounds-spec =
@@ -191,9 +192,9 @@ rounds-spec =
     enum-told
     same-length
     returns
+    add-this-side
+    add-this-side-2
     add-more
-    add-more-2
-    add-more-3
     same-length-2
     returns-2
     add-struck

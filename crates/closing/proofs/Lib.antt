@@ -8,5 +8,6 @@ pub mod Passing
 pub mod Copies
 pub mod Closings
 pub mod Determined
+pub mod Demand1
 pub mod Demand3
 pub mod Refuted

@@ -29,10 +29,6 @@ closes s t w Emptied = T (emptied (closing s t))
 abbrev pub ClosesUnder : List ℕ → List ℕ → List ℕ → Swept → Type 0
 ClosesUnder ws t w r = (s : Sheet) → read ws ≡ good s → closes s t w r
 
--- the number of cells in the room for a working copy
-abbrev pub room : ℕ
-room = 256
-
 -- a table and a working copy, each of as many cells as v boards have
 pub record Working (v : ℕ) (t w : List ℕ) : Type 0 where
   pub boards : v ≤ mostBoards

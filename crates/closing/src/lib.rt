@@ -11,18 +11,19 @@ ghost use Rattle.rules.specs.Calls.{close};
 ghost use Rattle.answers.specs.Answers.{outcome};
 ghost use Rattle.sheet.specs.declared.header.HeaderFound.the-variants.{Good};
 ghost use Rattle.sheet.specs.Found.{descriptionFound};
-ghost use Rattle.passes.specs.Passes.{Ready};
-ghost use Rattle.closing.specs.Closes.{ClosesUnder, Copied, Working, room};
+ghost use Rattle.passes.specs.Passes.{mostCells, Ready};
+ghost use Rattle.closing.specs.Closes.{ClosesUnder, Copied, Working};
 use crate::sweeps::Swept;
 use answers::Answer;
 use sheet::header::Header;
 use sheet::header::HeaderFound;
+use sheet::header::MOST_BOARDS;
 
 // The refusal of a closing: the largest closed table has an empty cell.
 pub const CONTRADICTORY: u8 = 7;
 
 // The most cells of a table.
-const MOST_CELLS: usize = 256;
+const MOST_CELLS: usize = MOST_BOARDS * MOST_BOARDS;
 
 // Closes the cells under the description that the words mean, whose header this is.
 fn settle(h: Header, words: &[u16], cells: &mut [u8]) -> Swept
@@ -90,7 +91,7 @@ fn close_by_copy(h: Header, words: &[u16], table: &mut [u8], cells: &mut [u8]) -
 
 // Room for the working copy.
 fn room() -> [u8; MOST_CELLS]
-    ensures { λ r. ⌜ length r ≡ room ⌝ }
+    ensures { λ r. ⌜ length r ≡ mostCells ⌝ }
 {
     [0; MOST_CELLS]
 }

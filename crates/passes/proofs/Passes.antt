@@ -16,7 +16,7 @@ use Rattle.rules.proofs.Inside.{in-range, inside-refl, inside-trans, total-mono
 use Rattle.rules.proofs.Strikes.{strike-table, strike-inside, strike-keeps, strike-within, strike-idle, strike-total}
 use Rattle.rules.proofs.Rules.{Grows}
 use Rattle.rules.proofs.Calls.{total-most}
-use Rattle.passes.specs.Passes.{Filled, Idles, Narrowed, Ready, Kept, Pass, Once, Clash}
+use Rattle.passes.specs.Passes.{mostCells, mostMembers, Filled, Idles, Narrowed, Ready, Kept, Pass, Once, Clash}
 
 over-more : {X : Type 0} (f : X → List Rule) (done : List X) (x : X) → flatMap f done ++ f x ≡ flatMap f (done ++ (x ∷ []))
 unfolding flatMap
@@ -196,7 +196,7 @@ module _ {v : ℕ} where
 
   -- ---- a site that is not too large: its places, its counts
 
-  pub place-few : {p q : ℕ} → v ≤ mostBoards → p < v → q < v → v * p + q < 256
+  pub place-few : {p q : ℕ} → v ≤ mostBoards → p < v → q < v → v * p + q < mostCells
   place-few {p} {q} h l m = omega (arith, in-range v p q l m, mul-le-mul h h)
 
   pub ready-place : {t : List ℕ} {p q : ℕ} → Ready v t → p < v → q < v → v * p + q < length t
@@ -205,7 +205,7 @@ module _ {v : ℕ} where
   pub ready-kept : {rs : List Rule} {t w : List ℕ} {a b : ℕ} → Ready v t → Kept v rs t a w b → Ready v w
   ready-kept r k = record { boards = r .boards; table = k .table }
 
-  pub kept-few : {rs : List Rule} {t w : List ℕ} {a b : ℕ} → Ready v t → Kept v rs t a w b → b ≤ a + 1024
+  pub kept-few : {rs : List Rule} {t w : List ℕ} {a b : ℕ} → Ready v t → Kept v rs t a w b → b ≤ a + mostMembers
   unfolding relations
   kept-few {t = t} r k =
       let c = k .counted in

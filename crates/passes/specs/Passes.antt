@@ -2,13 +2,20 @@
 use mathlib.Core.Path.{_≡_}
 use mathlib.Core.Bool.{not}
 use mathlib.Core.List.{List, List·Memᴰ}
-use Prim.Native.Nat.{ℕ, _+_, _-_, _≤_}
+use Prim.Native.Nat.{ℕ, _+_, _*_, _-_, _≤_}
 use lib.Dec.{T}
 use lib.ListN.{getD}
 use Rattle.rules.specs.Relations.{meet, size}
 use Rattle.rules.specs.Descriptions.{mostBoards}
 use Rattle.rules.specs.Tables.{cell, Table, narrowed, Inside, emptied, total}
 use Rattle.rules.specs.Closing.{Rule, Idle}
+
+-- the most cells of a table, and the most relations in them
+abbrev pub mostCells : ℕ
+mostCells = mostBoards * mostBoards
+
+abbrev pub mostMembers : ℕ
+mostMembers = 4 * mostCells
 
 -- no cell is empty
 abbrev pub Filled : List ℕ → Type 0

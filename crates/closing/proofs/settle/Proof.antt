@@ -8,6 +8,7 @@ use lib.ListN.{length}
 use Rattle.rules.specs.Descriptions.{Sheet}
 use Rattle.rules.specs.Tables.{emptied}
 use Rattle.rules.specs.Closing.{closing}
+use Rattle.passes.specs.Passes.{mostMembers}
 use Rattle.passes.proofs.Passes.{kept-few, kept-then, kept-from, ready-kept}
 use Rattle.sheet.proofs.Described.{described}
 use Rattle.closing.specs.Sweeps.{moving, settling}
@@ -46,7 +47,7 @@ add-struck c =
     let d = described (start .args .words .now) (start .args .h) (start .pre .0) in
     let o₁ = c .before .before .before .before .before .before .before .diagonal .ensures in
     let o₄ = c .before .before .relation-lines .ensures (d .0 .lines) (d .1 .lines) in
-    let l : c .before .before .before .before .before .before .before .diagonal .result + c .before .before .relation-lines .result ≤ 0 + 1024 = kept-few (start .pre .1) (kept-then _ (o₁ .kept) (kept-from _ (o₄ .kept))) in
+    let l : c .before .before .before .before .before .before .before .diagonal .result + c .before .before .relation-lines .result ≤ 0 + mostMembers = kept-few (start .pre .1) (kept-then _ (o₁ .kept) (kept-from _ (o₄ .kept))) in
     record { fits = omega arith }
 
 mul-spreads : tie.Need-mul-spreads

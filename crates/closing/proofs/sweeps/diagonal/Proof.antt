@@ -6,7 +6,7 @@ use Rattle.rules.specs.Tables.{upTo}
 use Rattle.rules.specs.Closing.{rules1}
 use Rattle.rules.proofs.Sets.{single-small}
 use Rattle.rules.proofs.Rules.{same-small}
-use Rattle.passes.specs.Passes.{Once}
+use Rattle.passes.specs.Passes.{mostMembers, Once}
 use Rattle.passes.proofs.Passes.{once-start, once-whole, place-few, ready-place, ready-kept, kept-few}
 use Rattle.closing.proofs.Sweeping.{itself, itself-turn}
 use Rattle.closing.proofs.sweeps.diagonal.Statement.{statement}
@@ -45,7 +45,7 @@ add-struck c =
     let start = c .before .before .before .before .before .before .before in
     let loop = c .before .before .before .before .before .loop in
     let k = itself-turn {a = 0} (start .pre) (c .before .before .before .before .loop-test .taken) (loop .inv .1) (c .before .before .narrow .ensures) in
-    let l : loop .struck + c .before .before .narrow .result ≤ 0 + 1024 = kept-few (start .pre) (k .kept) in
+    let l : loop .struck + c .before .before .narrow .result ≤ 0 + mostMembers = kept-few (start .pre) (k .kept) in
     record { fits = omega arith }
 
 add-p : tie.Need-add-p Inv-loop μ-loop

@@ -11,7 +11,7 @@ use Rattle.rules.specs.Relations.{sets}
 use Rattle.rules.specs.Tables.{cell, upTo}
 use Rattle.rules.specs.Closing.{rules3}
 use Rattle.rules.proofs.Composition.{compose-small}
-use Rattle.passes.specs.Passes.{Sound, Pass, Clash}
+use Rattle.passes.specs.Passes.{mostMembers, Sound, Pass, Clash}
 use Rattle.passes.proofs.Passes.{pass-start, pass-next, pass-whole, kept-then, kept-few, place-few, ready-place, ready-kept}
 use Rattle.closing.proofs.Sweeping.{through, through-each, through-all, through-turn, through-kept, through-clash}
 use Rattle.closing.proofs.sweeps.sweep.Statement.{statement}
@@ -181,7 +181,7 @@ add-struck c =
     let hp : sweep .p < v = c .before .before .before .before .before .before .before .before .before .before .before .before .sweep-test .taken in
     let hr : loop2 .r < v = c .before .before .before .before .before .before .before .before .loop2-test .taken in
     let k = through-kept (loop .q) (ready-kept (ready-kept (start .pre) (sweep .inv .1 .kept)) (loop .inv .1 .kept)) hp hr (loop2 .inv .1) (c .before .before .before .before .compose .ensures) (c .before .before .narrow .ensures) in
-    let l : loop2 .struck + c .before .before .narrow .result ≤ 0 + 1024 = kept-few (start .pre) (kept-then _ (sweep .inv .1 .kept) (kept-then _ (loop .inv .1 .kept) k)) in
+    let l : loop2 .struck + c .before .before .narrow .result ≤ 0 + mostMembers = kept-few (start .pre) (kept-then _ (sweep .inv .1 .kept) (kept-then _ (loop .inv .1 .kept) k)) in
     record { fits = omega arith }
 
 slice-read-last : tie.Need-slice-read-last Inv-loop2 μ-loop2 Inv-loop μ-loop Inv-sweep μ-sweep

@@ -7,7 +7,7 @@ use Rattle.rules.specs.Relations.{sets}
 use Rattle.rules.specs.Tables.{cell, upTo}
 use Rattle.rules.specs.Closing.{boardsOf, rules2}
 use Rattle.rules.proofs.Composition.{converse-small}
-use Rattle.passes.specs.Passes.{Quiet, Pass}
+use Rattle.passes.specs.Passes.{mostMembers, Quiet, Pass}
 use Rattle.passes.proofs.Passes.{pass-start, pass-next, pass-whole, kept-then, kept-few, place-few, ready-place, ready-kept}
 use Rattle.closing.proofs.Sweeping.{across, across-turn}
 use Rattle.closing.proofs.sweeps.turn.Statement.{statement}
@@ -86,7 +86,7 @@ add-struck c =
     let loop = c .before .before .before .before .before .before .before .before .before .loop in
     let loop2 = c .before .before .before .before .before .before .before .loop2 in
     let k = across-turn (ready-kept (start .pre) (loop .inv .1 .kept)) (c .before .before .before .before .before .before .before .before .loop-test .taken) (c .before .before .before .before .before .before .loop2-test .taken) (loop2 .inv .1) (c .before .before .before .before .converse .ensures) (c .before .before .narrow .ensures) in
-    let l : loop2 .struck + c .before .before .narrow .result ≤ 0 + 1024 = kept-few (start .pre) (kept-then _ (loop .inv .1 .kept) (k .kept)) in
+    let l : loop2 .struck + c .before .before .narrow .result ≤ 0 + mostMembers = kept-few (start .pre) (kept-then _ (loop .inv .1 .kept) (k .kept)) in
     record { fits = omega arith }
 
 add-q : tie.Need-add-q Inv-loop2 μ-loop2 Inv-loop μ-loop

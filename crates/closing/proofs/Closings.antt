@@ -9,12 +9,12 @@ use lib.Dec.{T, T-not}
 use Rattle.rules.specs.Descriptions.{Sheet, good, refused, read}
 use Rattle.rules.specs.Tables.{Table, Inside, emptied, total}
 use Rattle.rules.specs.Closed.{Closed, strikes}
-use Rattle.rules.specs.Closing.{Rule, Idle, rules1, rules2, rules3, rules4, rules5, rules6, rules7, rules, closing}
+use Rattle.rules.specs.Closing.{Rule, Idle, rules1, rules2, rules4, rules5, rules6, rules7, rules, closing}
 use Rattle.rules.specs.Calls.{Outcome, refuse, succeed, close}
 use Rattle.rules.proofs.Tests.{T-true, T-false}
 use Rattle.rules.proofs.Members.{All, all-append, append-left, append-right}
 use Rattle.rules.proofs.Inside.{inside-trans}
-use Rattle.rules.proofs.Rules.{closed-idle, idle-closed}
+use Rattle.rules.proofs.Rules.{parts-rules, rules-parts, closed-idle, idle-closed}
 use Rattle.rules.proofs.Largest.{closing-largest, largest-unique}
 use Rattle.rules.proofs.Calls.{given-refused, given-no-table, given-good}
 use Rattle.passes.specs.Passes.{Ready, Once, Clash}
@@ -31,48 +31,31 @@ staying s = rules1 (s .boards) ++ (rules4 (s .lines) ++ rules5 (s .kinds))
 
 module _ (P : Rule → Type 0) (s : Sheet) where
   all-parts : All P (staying s) → All P (moving (s .boards) (s .kinds)) → All P (rules s)
-  unfolding rules
   all-parts f g =
-      let f₄ = append-right P (rules1 (s .boards)) (rules4 (s .lines) ++ rules5 (s .kinds)) f in
-      let g₆ = append-right P (rules2 (s .boards)) (rules6 (s .boards) (s .kinds) ++ (rules7 (s .boards) (s .kinds) ++ rules3 (s .boards))) g in
-      let g₇ = append-right P (rules6 (s .boards) (s .kinds)) (rules7 (s .boards) (s .kinds) ++ rules3 (s .boards)) g₆ in
-      all-append P (rules1 (s .boards)) (append-left P (rules1 (s .boards)) _ f)
-      (all-append P (rules2 (s .boards)) (append-left P (rules2 (s .boards)) _ g)
-      (all-append P (rules3 (s .boards)) (append-right P (rules7 (s .boards) (s .kinds)) _ g₇)
-      (all-append P (rules4 (s .lines)) (append-left P (rules4 (s .lines)) _ f₄)
-      (all-append P (rules5 (s .kinds)) (append-right P (rules4 (s .lines)) _ f₄)
-      (all-append P (rules6 (s .boards) (s .kinds)) (append-left P (rules6 (s .boards) (s .kinds)) _ g₆)
-      (append-left P (rules7 (s .boards) (s .kinds)) _ g₇))))))
+      let f₄ = append-right P (rules1 (s .boards)) _ f in
+      let g₆ = append-right P (rules2 (s .boards)) _ g in
+      let g₇ = append-right P (rules6 (s .boards) (s .kinds)) _ g₆ in
+      parts-rules P s
+      (record {
+        one = append-left P (rules1 (s .boards)) _ f;
+        two = append-left P (rules2 (s .boards)) _ g;
+        three = append-right P (rules7 (s .boards) (s .kinds)) _ g₇;
+        four = append-left P (rules4 (s .lines)) _ f₄;
+        five = append-right P (rules4 (s .lines)) _ f₄;
+        six = append-left P (rules6 (s .boards) (s .kinds)) _ g₆;
+        seven = append-left P (rules7 (s .boards) (s .kinds)) _ g₇;
+      })
 
-  module _ (h : All P (rules s)) where
-    from2 : All P (rules2 (s .boards) ++ (rules3 (s .boards) ++ (rules4 (s .lines) ++ (rules5 (s .kinds) ++ (rules6 (s .boards) (s .kinds) ++ rules7 (s .boards) (s .kinds))))))
-    unfolding rules
-    from2 = append-right P (rules1 (s .boards)) _ h
+  staying-part : All P (rules s) → All P (staying s)
+  staying-part h =
+      let parts = rules-parts P s h in
+      all-append P (rules1 (s .boards)) (parts .one) (all-append P (rules4 (s .lines)) (parts .four) (parts .five))
 
-    from3 : All P (rules3 (s .boards) ++ (rules4 (s .lines) ++ (rules5 (s .kinds) ++ (rules6 (s .boards) (s .kinds) ++ rules7 (s .boards) (s .kinds)))))
-    from3 = append-right P (rules2 (s .boards)) _ from2
-
-    from4 : All P (rules4 (s .lines) ++ (rules5 (s .kinds) ++ (rules6 (s .boards) (s .kinds) ++ rules7 (s .boards) (s .kinds))))
-    from4 = append-right P (rules3 (s .boards)) _ from3
-
-    from5 : All P (rules5 (s .kinds) ++ (rules6 (s .boards) (s .kinds) ++ rules7 (s .boards) (s .kinds)))
-    from5 = append-right P (rules4 (s .lines)) _ from4
-
-    from6 : All P (rules6 (s .boards) (s .kinds) ++ rules7 (s .boards) (s .kinds))
-    from6 = append-right P (rules5 (s .kinds)) _ from5
-
-    staying-part : All P (staying s)
-    unfolding rules
-    staying-part =
-        all-append P (rules1 (s .boards)) (append-left P (rules1 (s .boards)) _ h)
-        (all-append P (rules4 (s .lines)) (append-left P (rules4 (s .lines)) _ from4) (append-left P (rules5 (s .kinds)) _ from5))
-
-    moving-part : All P (moving (s .boards) (s .kinds))
-    moving-part =
-        all-append P (rules2 (s .boards)) (append-left P (rules2 (s .boards)) _ from2)
-        (all-append P (rules6 (s .boards) (s .kinds)) (append-left P (rules6 (s .boards) (s .kinds)) _ from6)
-        (all-append P (rules7 (s .boards) (s .kinds)) (append-right P (rules6 (s .boards) (s .kinds)) _ from6)
-        (append-left P (rules3 (s .boards)) _ from3)))
+  moving-part : All P (rules s) → All P (moving (s .boards) (s .kinds))
+  moving-part h =
+      let parts = rules-parts P s h in
+      all-append P (rules2 (s .boards)) (parts .two)
+      (all-append P (rules6 (s .boards) (s .kinds)) (parts .six) (all-append P (rules7 (s .boards) (s .kinds)) (parts .seven) (parts .three)))
 
 -- ---- the largest closed table
 

@@ -8,8 +8,9 @@ use lib.ListN.{length, getD}
 use Rattle.rules.specs.Relations.{E, converse, compose}
 use Rattle.rules.specs.Tables.{cell, emptied, upTo}
 use Rattle.rules.specs.Closing.{Rule, lies, boardsOf, rules3}
-use Rattle.rules.proofs.Members.{All, one-all, all-append, all-over, over-all, upTo-in, upTo-out}
+use Rattle.rules.proofs.Members.{All, one-all, all-append, all-over, upTo-out}
 use Rattle.rules.proofs.Composition.{converse-mono, compose-mono}
+use Rattle.rules.proofs.Rules.{boards-all}
 use Rattle.rules.proofs.Inside.{each-place, emptied-in, emptied-out}
 use Rattle.passes.specs.Passes.{Idles, Narrowed, Ready, Kept, Pass, Quiet, Sound, Once, Clash}
 use Rattle.passes.proofs.Passes.{kept-then, kept-as, kept-strike, kept-clash, pass-next, pass-strike, once-next, once-strike, ready-place, ready-kept}
@@ -73,7 +74,7 @@ module _ {v : ℕ} {t w x : List ℕ} {p : ℕ} (q : ℕ) {r a b c n : ℕ} (o :
       (f : Pass (Sound v) v (flatMap (through-each v p) (upTo q)) u a₁ t a) where
     part : (P : Rule → Type 0) → All P (rules3 v) → (p q r : ℕ) → p < v → q < v → r < v → All P (through v p q r)
     unfolding rules3
-    part P d p q r l m n = over-all P _ (upTo v) (over-all P _ (upTo v) (over-all P _ (upTo v) d p (upTo-in l)) q (upTo-in m)) r (upTo-in n)
+    part P d p q r l m n = boards-all P v _ (boards-all P v _ (boards-all P v _ d p l) q m) r n
 
     pub through-clash : getD x (v * p + r) 0 ≡ 0 → Clash v (rules3 v) s
     through-clash z =
@@ -96,7 +97,7 @@ unfolding rules3
 threes-see v t h f = not-T (emptied t) (λ m. from (emptied-out t m))
   where
     each : (p r : ℕ) → p < v → r < v → getD t (v * p + r) 0 ≡ 0 → ⊥
-    each p r l m = one-all _ (over-all _ _ (upTo v) (over-all _ _ (upTo v) (over-all _ _ (upTo v) f p (upTo-in l)) p (upTo-in l)) r (upTo-in m)) .1
+    each p r l m = one-all _ (boards-all _ v _ (boards-all _ v _ (boards-all _ v _ f p l) p l) r m) .1
 
     from : (i : ℕ) × (i < length t) × (getD t i 0 ≡ 0) → ⊥
     from m = each-place (λ i. getD t i 0 ≡ 0 → ⊥) h each (m .0) (m .1) (m .2)

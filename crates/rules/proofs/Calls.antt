@@ -1,4 +1,5 @@
--- The tests of the calls say what they are named after: a well-formed table, an arrangement; and what a closing strikes is at most 768.
+-- The tests of the calls say what they are named after: a well-formed table, an arrangement; they come before the rest of a call; and what a closing
+-- strikes is at most 768.
 -- Assumes nothing.
 use mathlib.Core.Path.{_≡_, refl, sym, ap, _∙_, subst}
 use mathlib.Core.Bool.{Bool, true, false, not}
@@ -19,7 +20,7 @@ use Rattle.rules.specs.Closing.{rules}
 use Rattle.rules.specs.Calls.{Outcome, refuse, wellFormed, given, idle, arranged}
 use Rattle.rules.proofs.Tests.{T-true, T-false, and-T, T-and-left, T-and-right, T-decide, count-most}
 use Rattle.rules.proofs.Sets.{within-⊆, ⊆-within, size-one, size-single, size-pos, some-member}
-use Rattle.rules.proofs.Members.{each-of-in, each-of-out, member-at, at-member}
+use Rattle.rules.proofs.Members.{each-of-in, each-of-out, each-of-places, member-at}
 use Rattle.rules.proofs.Inside.{each-place, in-range, total-mono}
 use Rattle.rules.proofs.Rules.{closed-idle, idle-closed}
 use Rattle.rules.proofs.Arrangements.{Singles, arrangement-closed, closed-arrangement}
@@ -30,10 +31,7 @@ pub table-wellFormed : (v : ℕ) (t : List ℕ) → Table v t → T (wellFormed 
 unfolding wellFormed
 table-wellFormed v t h =
     and-T (eqb (length t) (v * v)) (eachOf (λ x. ltb x sets) t) (subst (λ (n : ℕ). T (eqb (length t) n)) (h .cells) (eqb-refl (length t)))
-    (each-of-in (λ x. ltb x sets) t (λ x m. small x (at-member t x m)))
-  where
-    small : (x : ℕ) → (k : ℕ) × (k < length t) × (getD t k 0 ≡ x) → T (ltb x sets)
-    small x m = lt→ltb x sets (subst (λ (y : ℕ). y < sets) (m .2) (h .small (m .0)))
+    (each-of-places (λ x. ltb x sets) t (λ k l. lt→ltb (getD t k 0) sets (h .small k)))
 
 pub wellFormed-table : (v : ℕ) (t : List ℕ) → T (wellFormed v t) → Table v t
 unfolding wellFormed
@@ -83,15 +81,12 @@ module _ {s : Sheet} (f : WellFormed s) {t : List ℕ} where
   unfolding arranged
   arrangement-arranged a =
       and-T (eachOf (λ x. eqb (size x) 1) t) (eachOf (idle (s .boards) t) (rules s))
-      (each-of-in (λ x. eqb (size x) 1) t (λ x m. of x (at-member t x m)))
+      (each-of-places (λ x. eqb (size x) 1) t (each-place (λ k. T (eqb (size (getD t k 0)) 1)) (a .table) single))
       (each-of-in (idle (s .boards) t) (rules s) (λ r m. ⊆-within (closed-idle (arrangement-closed f a) r m)))
     where
       single : (p q : ℕ) → p < s .boards → q < s .boards → T (eqb (size (at s t p q)) 1)
       single p q hp hq =
           let o = a .single p q hp hq in subst (λ (n : ℕ). T (eqb n 1)) (sym (ap size (o .2) ∙ size-single (o .0) (o .1))) tt
-
-      of : (x : ℕ) → (k : ℕ) × (k < length t) × (getD t k 0 ≡ x) → T (eqb (size x) 1)
-      of x m = subst (λ (y : ℕ). T (eqb (size y) 1)) (m .2) (each-place (λ k. T (eqb (size (getD t k 0)) 1)) (a .table) single (m .0) (m .1))
 
   pub arranged-arrangement : Table (s .boards) t → T (arranged s t) → Arrangement s t
   unfolding arranged

@@ -101,6 +101,13 @@ at-member (y ∷ xs) x m = go (List·Memᴰ·cases-cons m) (λ n. at-member xs x
     go (inl e) f = (0, omega arith, sym e)
     go (inr n) f = let r = f n in let l : r .0 < length xs = r .1 in (suc (r .0), omega arith, r .2)
 
+-- a test that passes at each place passes at each element
+pub each-of-places : (f : ℕ → Bool) (xs : List ℕ) → ((k : ℕ) → k < length xs → T (f (getD xs k 0))) → T (eachOf f xs)
+each-of-places f xs h = each-of-in f xs (λ x m. from x (at-member xs x m))
+  where
+    from : (x : ℕ) → (k : ℕ) × (k < length xs) × (getD xs k 0 ≡ x) → T (f x)
+    from x m = subst (λ (y : ℕ). T (f y)) (m .2) (h (m .0) (m .1))
+
 -- ---- ranges of numbers
 
 pub range-in : (n i j : ℕ) → i ≤ j → j < i + n → List·Memᴰ j (range i n)

@@ -12,7 +12,7 @@ use Rattle.rules.specs.Descriptions.{RelationLine, KindLine, Sheet}
 use Rattle.rules.specs.Tables.{cell, Table, Inside, at, upTo}
 use Rattle.rules.specs.Arrangements.{way, width, Alike}
 use Rattle.rules.specs.Closed.{Misses, Closed}
-use Rattle.rules.specs.Closing.{unless, reaches, agree, bound6, bound6′, bound7, bound7′, Rule, Idle, lies, only, boardsOf, waysOf, rules1, rules2, rules3, rules4, rules5, rules6, rules7, rules}
+use Rattle.rules.specs.Closing.{unless, reaches, agree, bound6, bound6′, bound7, bound7′, Rule, Idle, lies, only, boardsOf, waysOf, rule6, rule7, rules1, rules2, rules3, rules4, rules5, rules6, rules7, rules}
 use Rattle.rules.proofs.Tests.{and-T, T-and-left, T-and-right, or-T-left, or-T-right, T-or, some-in, some-out, each-at, each-all, T-decide, T-not-not, differ-T, T-differ}
 use Rattle.rules.proofs.Digits.{has-single, single-has}
 use Rattle.rules.proofs.Sets.{complement-in, complement-out, ⊆-refl, ⊆-eq, ⊆-trans, ⊆-antisym, ⊆-full, within-⊆, ⊆-within}
@@ -30,11 +30,11 @@ module _ (P : Rule → Type 0) where
   only-all true rs h t = h
   only-all false rs h t = absurd t
 
-  all-boards : (s : Sheet) (f : ℕ → List Rule) → ((p : ℕ) → p < s .boards → All P (f p)) → All P (boardsOf (s .boards) f)
-  all-boards s f h = all-over P f (upTo (s .boards)) (λ p m. h p (upTo-out (s .boards) p m))
+  all-boards : (v : ℕ) (f : ℕ → List Rule) → ((p : ℕ) → p < v → All P (f p)) → All P (boardsOf v f)
+  all-boards v f h = all-over P f (upTo v) (λ p m. h p (upTo-out v p m))
 
-  boards-all : (s : Sheet) (f : ℕ → List Rule) → All P (boardsOf (s .boards) f) → (p : ℕ) → p < s .boards → All P (f p)
-  boards-all s f h p l = over-all P f (upTo (s .boards)) h p (upTo-in l)
+  pub boards-all : (v : ℕ) (f : ℕ → List Rule) → All P (boardsOf v f) → (p : ℕ) → p < v → All P (f p)
+  boards-all v f h p l = over-all P f (upTo v) h p (upTo-in l)
 
   pub all-ways : (k : KindLine) (f : ℕ → List Rule) → ((i : ℕ) → i < width k → All P (f i)) → All P (waysOf k f)
   all-ways k f h = all-over P f (upTo (width k)) (λ i m. h i (upTo-out (width k) i m))
@@ -45,6 +45,16 @@ module _ (P : Rule → Type 0) where
   -- the rule that (p, q) lie within b
   abbrev pub At : ℕ → ℕ → (List ℕ → ℕ) → Type 0
   At p q b = P (record { row = p; column = q; bound = b })
+
+  -- P holds of each of the seven rules' lists
+  pub record Parts (s : Sheet) : Type 0 where
+    pub one : All P (rules1 (s .boards))
+    pub two : All P (rules2 (s .boards))
+    pub three : All P (rules3 (s .boards))
+    pub four : All P (rules4 (s .lines))
+    pub five : All P (rules5 (s .kinds))
+    pub six : All P (rules6 (s .boards) (s .kinds))
+    pub seven : All P (rules7 (s .boards) (s .kinds))
 
   -- P holds of each rule: the sentences of rules 1 to 7
   pub record Rules (s : Sheet) : Type 0 where
@@ -81,61 +91,89 @@ module _ (P : Rule → Type 0) where
         all-only (agree k l) (waysOf k (λ i. lies (way k i) (way l i) (λ t. bound7′ (s .boards) t k l)))
         (λ a. all-ways k (λ i. lies (way k i) (way l i) (λ t. bound7′ (s .boards) t k l)) (λ i b. all-one P (h .r7′ k m l n a i b)))
 
+    -- what holds of each of the seven rules' lists holds of the whole, and the other way round
+    pub parts-rules : Parts s → All P (rules s)
+    unfolding rules
+    parts-rules h =
+        all-append P (rules1 (s .boards)) (h .one)
+        (all-append P (rules2 (s .boards)) (h .two)
+        (all-append P (rules3 (s .boards)) (h .three)
+        (all-append P (rules4 (s .lines)) (h .four)
+        (all-append P (rules5 (s .kinds)) (h .five) (all-append P (rules6 (s .boards) (s .kinds)) (h .six) (h .seven))))))
+
+    pub rules-parts : All P (rules s) → Parts s
+    unfolding rules
+    rules-parts h =
+        let h2 = append-right P (rules1 (s .boards)) _ h in
+        let h3 = append-right P (rules2 (s .boards)) _ h2 in
+        let h4 = append-right P (rules3 (s .boards)) _ h3 in
+        let h5 = append-right P (rules4 (s .lines)) _ h4 in
+        let h6 = append-right P (rules5 (s .kinds)) _ h5 in
+        record {
+          one = append-left P (rules1 (s .boards)) _ h;
+          two = append-left P (rules2 (s .boards)) _ h2;
+          three = append-left P (rules3 (s .boards)) _ h3;
+          four = append-left P (rules4 (s .lines)) _ h4;
+          five = append-left P (rules5 (s .kinds)) _ h5;
+          six = append-left P (rules6 (s .boards) (s .kinds)) _ h6;
+          seven = append-right P (rules6 (s .boards) (s .kinds)) _ h6;
+        }
+
     -- what holds of each rule holds of the list
     pub all-rules : Rules s → All P (rules s)
-    unfolding rules rules1 rules2 rules3 rules4 rules5 rules6 rules7
+    unfolding rules1 rules2 rules3 rules4 rules5 rules6 rules7
     all-rules h =
-        all-append P (rules1 (s .boards)) (all-boards s _ (λ p l. all-one P (h .r1 p l)))
-        (all-append P (rules2 (s .boards)) (all-boards s _ (λ p l. all-boards s _ (λ q m. all-one P (h .r2 p q l m))))
-        (all-append P (rules3 (s .boards)) (all-boards s _ (λ p l. all-boards s _ (λ q m. all-boards s _ (λ r n. all-one P (h .r3 p q r l m n)))))
-        (all-append P (rules4 (s .lines)) (all-over P _ (s .lines) (λ l m. all-one P (h .r4 l m)))
-        (all-append P (rules5 (s .kinds))
-        (all-over P _ (s .kinds) (λ k m. all-ways k _ (λ i l. all-append P (lies (k .p) (way k i) (λ t. A)) (all-one P (h .r5 k m i l)) (all5 h k m i l))))
-        (all-append P (rules6 (s .boards) (s .kinds))
-        (all-over P _ (s .kinds) (λ k m. all-boards s _ (λ z n.
-        all-append P (lies (k .p) z (λ t. bound6 (s .boards) t k z)) (all-one P (h .r6 k m z n)) (all6 h k m z n))))
-        (all-over P _ (s .kinds) (λ k m. all-over P _ (s .kinds) (λ l n.
-        all-append P (lies (k .p) (l .p) (λ t. bound7 (s .boards) t k l)) (all-one P (h .r7 k m l n)) (all7 h k m l n)))))))))
+        parts-rules
+        (record {
+          one = all-boards (s .boards) _ (λ p l. all-one P (h .r1 p l));
+          two = all-boards (s .boards) _ (λ p l. all-boards (s .boards) _ (λ q m. all-one P (h .r2 p q l m)));
+          three =
+              all-boards (s .boards) _ (λ p l. all-boards (s .boards) _ (λ q m. all-boards (s .boards) _ (λ r n. all-one P (h .r3 p q r l m n))));
+          four = all-over P _ (s .lines) (λ l m. all-one P (h .r4 l m));
+          five =
+              all-over P _ (s .kinds) (λ k m. all-ways k _ (λ i l. all-append P (lies (k .p) (way k i) (λ t. A)) (all-one P (h .r5 k m i l)) (all5 h k m i l)));
+          six =
+              all-over P _ (s .kinds) (λ k m. all-boards (s .boards) _ (λ z n.
+              all-append P (lies (k .p) z (λ t. bound6 (s .boards) t k z)) (all-one P (h .r6 k m z n)) (all6 h k m z n)));
+          seven =
+              all-over P _ (s .kinds) (λ k m. all-over P _ (s .kinds) (λ l n.
+              all-append P (lies (k .p) (l .p) (λ t. bound7 (s .boards) t k l)) (all-one P (h .r7 k m l n)) (all7 h k m l n)));
+        })
 
     -- and what holds of the list holds of each rule
     pub rules-all : All P (rules s) → Rules s
-    unfolding rules rules1 rules2 rules3 rules4 rules5 rules6 rules7
+    unfolding rules1 rules2 rules3 rules4 rules5 rules6 rules7
     rules-all h =
-        let h2 = append-right P (rules1 (s .boards)) (rules2 (s .boards) ++ (rules3 (s .boards) ++ (rules4 (s .lines) ++ (rules5 (s .kinds) ++ (rules6 (s .boards) (s .kinds) ++ rules7 (s .boards) (s .kinds)))))) h in
-        let h3 = append-right P (rules2 (s .boards)) (rules3 (s .boards) ++ (rules4 (s .lines) ++ (rules5 (s .kinds) ++ (rules6 (s .boards) (s .kinds) ++ rules7 (s .boards) (s .kinds))))) h2 in
-        let h4 = append-right P (rules3 (s .boards)) (rules4 (s .lines) ++ (rules5 (s .kinds) ++ (rules6 (s .boards) (s .kinds) ++ rules7 (s .boards) (s .kinds)))) h3 in
-        let h5 = append-right P (rules4 (s .lines)) (rules5 (s .kinds) ++ (rules6 (s .boards) (s .kinds) ++ rules7 (s .boards) (s .kinds))) h4 in
-        let h6 = append-right P (rules5 (s .kinds)) (rules6 (s .boards) (s .kinds) ++ rules7 (s .boards) (s .kinds)) h5 in
-        let h7 = append-right P (rules6 (s .boards) (s .kinds)) (rules7 (s .boards) (s .kinds)) h6 in
+        let parts = rules-parts h in
         record {
-          r1 = λ p l. one-all P (boards-all s _ (append-left P (rules1 (s .boards)) _ h) p l);
-          r2 = λ p q l m. one-all P (boards-all s _ (boards-all s _ (append-left P (rules2 (s .boards)) _ h2) p l) q m);
-          r3 = λ p q r l m n. one-all P (boards-all s _ (boards-all s _ (boards-all s _ (append-left P (rules3 (s .boards)) _ h3) p l) q m) r n);
-          r4 = λ l m. one-all P (over-all P _ (s .lines) (append-left P (rules4 (s .lines)) _ h4) l m);
-          r5 = λ k m i l. one-all P (append-left P (lies (k .p) (way k i) (λ t. A)) _ (at5 h5 k m i l));
+          r1 = λ p l. one-all P (boards-all (s .boards) _ (parts .one) p l);
+          r2 = λ p q l m. one-all P (boards-all (s .boards) _ (boards-all (s .boards) _ (parts .two) p l) q m);
+          r3 = λ p q r l m n. one-all P (boards-all (s .boards) _ (boards-all (s .boards) _ (boards-all (s .boards) _ (parts .three) p l) q m) r n);
+          r4 = λ l m. one-all P (over-all P _ (s .lines) (parts .four) l m);
+          r5 = λ k m i l. one-all P (append-left P (lies (k .p) (way k i) (λ t. A)) _ (at5 (parts .five) k m i l));
           r5′ =
               λ k m i j l n d.
-              one-all P (only-all (not (eqb i j)) _ (ways-all k _ (append-right P (lies (k .p) (way k i) (λ t. A)) _ (at5 h5 k m i l)) j n) d);
-          r6 = λ k m z n. one-all P (append-left P (lies (k .p) z (λ t. bound6 (s .boards) t k z)) _ (at6 h6 k m z n));
+              one-all P (only-all (not (eqb i j)) _ (ways-all k _ (append-right P (lies (k .p) (way k i) (λ t. A)) _ (at5 (parts .five) k m i l)) j n) d);
+          r6 = λ k m z n. one-all P (append-left P (lies (k .p) z (λ t. bound6 (s .boards) t k z)) _ (at6 (parts .six) k m z n));
           r6′ =
-              λ k m z n i l. one-all P (ways-all k _ (append-right P (lies (k .p) z (λ t. bound6 (s .boards) t k z)) _ (at6 h6 k m z n)) i l);
-          r7 = λ k m l n. one-all P (append-left P (lies (k .p) (l .p) (λ t. bound7 (s .boards) t k l)) _ (at7 h7 k m l n));
+              λ k m z n i l.
+              one-all P (ways-all k _ (append-right P (lies (k .p) z (λ t. bound6 (s .boards) t k z)) _ (at6 (parts .six) k m z n)) i l);
+          r7 = λ k m l n. one-all P (append-left P (lies (k .p) (l .p) (λ t. bound7 (s .boards) t k l)) _ (at7 (parts .seven) k m l n));
           r7′ =
               λ k m l n a i b.
               one-all P
-              (ways-all k _ (only-all (agree k l) _ (append-right P (lies (k .p) (l .p) (λ t. bound7 (s .boards) t k l)) _ (at7 h7 k m l n)) a) i b);
+              (ways-all k _ (only-all (agree k l) _ (append-right P (lies (k .p) (l .p) (λ t. bound7 (s .boards) t k l)) _ (at7 (parts .seven) k m l n)) a) i b);
         }
       where
-        at5 : All P (rules5 (s .kinds) ++ (rules6 (s .boards) (s .kinds) ++ rules7 (s .boards) (s .kinds))) → (k : KindLine) → List·Memᴰ k (s .kinds) → (i : ℕ) → i < width k
+        at5 : All P (rules5 (s .kinds)) → (k : KindLine) → List·Memᴰ k (s .kinds) → (i : ℕ) → i < width k
             → All P (lies (k .p) (way k i) (λ t. A) ++ waysOf k (λ j. only (not (eqb i j)) (lies (way k i) (way k j) (λ t. S))))
-        at5 h k m i l = ways-all k _ (over-all P _ (s .kinds) (append-left P (rules5 (s .kinds)) (rules6 (s .boards) (s .kinds) ++ rules7 (s .boards) (s .kinds)) h) k m) i l
+        at5 h k m i l = ways-all k _ (over-all P _ (s .kinds) h k m) i l
 
-        at6 : All P (rules6 (s .boards) (s .kinds) ++ rules7 (s .boards) (s .kinds)) → (k : KindLine) → List·Memᴰ k (s .kinds) → (z : ℕ) → z < s .boards
-            → All P (lies (k .p) z (λ t. bound6 (s .boards) t k z) ++ waysOf k (λ i. lies (way k i) z (λ t. bound6′ (s .boards) t k i z)))
-        at6 h k m z n = boards-all s _ (over-all P _ (s .kinds) (append-left P (rules6 (s .boards) (s .kinds)) (rules7 (s .boards) (s .kinds)) h) k m) z n
+        at6 : All P (rules6 (s .boards) (s .kinds)) → (k : KindLine) → List·Memᴰ k (s .kinds) → (z : ℕ) → z < s .boards → All P (rule6 (s .boards) k z)
+        at6 h k m z n = boards-all (s .boards) _ (over-all P _ (s .kinds) h k m) z n
 
         at7 : All P (rules7 (s .boards) (s .kinds)) → (k : KindLine) → List·Memᴰ k (s .kinds) → (l : KindLine) → List·Memᴰ l (s .kinds)
-            → All P (lies (k .p) (l .p) (λ t. bound7 (s .boards) t k l) ++ only (agree k l) (waysOf k (λ i. lies (way k i) (way l i) (λ t. bound7′ (s .boards) t k l))))
+            → All P (rule7 (s .boards) k l)
         at7 h k m l n = over-all P _ (s .kinds) (over-all P _ (s .kinds) h k m) l n
 
 -- ---- what a bound says

@@ -2,6 +2,6 @@
 pub mod Evaluation
 pub mod Fronts
 pub mod Filled
-pub mod Wholes
 pub mod Described
+pub mod Wholes
 pub mod Determined

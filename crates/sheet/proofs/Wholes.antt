@@ -16,6 +16,7 @@ use Rattle.sheet.specs.declared.header.HeaderFound.the-variants.{Good, R
 use Rattle.sheet.specs.declared.sections.SectionFound.{SectionFound}
 use Rattle.sheet.specs.declared.sections.SectionFound.the-variants as sections
 use Rattle.sheet.specs.Found.{refusal, sectionFound, numbers, numbersFound, headerFound, descriptionFound}
+use Rattle.sheet.proofs.Described.{described, undescribed}
 
 -- ---- the header
 
@@ -123,18 +124,13 @@ module _ (ws : List ℕ) where
           go (refused n) e = clash (cc)
 
   -- what was found, as a number
+  number-of : Reading Sheet → ℕ
+  number-of r = elim r [ good s ↦ 0 | refused n ↦ n ]
+
   pub reading-good : (h : Header) → Good h ≡ descriptionFound ws → 0 ≡ reading ws
-  unfolding reading
-  reading-good h p = go (read ws) p
-    where
-      go : (r : Reading Sheet) → Good h ≡ numbersFound ws r → _≡_ {A = ℕ} 0 (elim r [ good s ↦ 0 | refused n ↦ n ])
-      go (good s) e = refl
-      go (refused n) e = clash (cc)
+  unfolding reading number-of
+  reading-good h p = sym (ap number-of (described ws h p .1 .means))
 
   pub reading-refused : (q : Refusal) → Refused q ≡ descriptionFound ws → q .number ≡ reading ws
-  unfolding reading
-  reading-refused q p = go (read ws) p
-    where
-      go : (r : Reading Sheet) → Refused q ≡ numbersFound ws r → _≡_ {A = ℕ} (q .number) (elim r [ good s ↦ 0 | refused n ↦ n ])
-      go (good s) e = clash (cc)
-      go (refused n) e = let f : q ≡ refusal n = cc in ap (λ (r : Refusal). r .number) f
+  unfolding reading number-of
+  reading-refused q p = sym (ap number-of (undescribed ws q p))

@@ -1,20 +1,21 @@
 -- `copied` meets its contract: the cells passed are sets, and copied. The measure is the cells left. Assumes nothing.
-use mathlib.Core.Path.{sym, _∙_}
+use mathlib.Core.Path.{refl, sym, _∙_}
 use Prim.Native.Nat.{_-_}
 use native.Mathlib.Omega.{arith}
 use lib.ListN.{length}
-use Rattle.closing.proofs.Copies.{Copying, copying-none, copying-more, Sets, sets-more, copied-not, copied-all}
+use Rattle.tables.proofs.Cells.{Laid, laid-none, laid-more}
+use Rattle.closing.proofs.Copies.{Sets, sets-more, copied-not, copied-all}
 use Rattle.closing.proofs.copied.Statement.{statement}
 use Rattle.closing.proofs.copied.Tie as tie
 
 abbrev Inv-loop : tie.InvT-loop
-Inv-loop table cells₀ i₀ i-end cells i = Copying table cells i × Sets table i
+Inv-loop table cells₀ i₀ i-end cells i = Laid table cells i × Sets table i
 
 abbrev μ-loop : tie.MeasureT-loop
 μ-loop table cells₀ i₀ i-end cells i = length table - i
 
 loop-holds : tie.Need-loop-holds Inv-loop μ-loop
-loop-holds c = (copying-none (c .pre), λ k h. let z : ⊥ = omega arith in absurd z)
+loop-holds c = (laid-none (c .pre), λ k h. let z : ⊥ = omega arith in absurd z)
 
 shared-slice-read-if1 : tie.Need-shared-slice-read-if1 Inv-loop μ-loop
 shared-slice-read-if1 c = omega (arith, c .before .loop-test .taken)
@@ -40,7 +41,7 @@ loop-less c = omega (arith, c .before .before .before .loop-test .taken)
 loop-again : tie.Need-loop-again Inv-loop μ-loop
 loop-again c =
     let loop = c .before .before .before .before .loop in
-    (copying-more (loop .inv .0) (c .before .before .before .loop-test .taken), sets-more (c .before .before .before .before .before .args .table .now) (loop .inv .1) (c .before .if1 .left))
+    (laid-more (loop .inv .0) (c .before .before .before .loop-test .taken) refl, sets-more (c .before .before .before .before .before .args .table .now) (loop .inv .1) (c .before .if1 .left))
 
 same-length-2 : tie.Need-same-length-2 Inv-loop μ-loop
 same-length-2 c = c .before .loop .inv .0 .cells ∙ sym (c .before .before .pre)

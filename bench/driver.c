@@ -1,4 +1,5 @@
-/* Measures the product's closing beside the plain C version: both close the same sheets by turns, and each answer and each table is compared. */
+/* Measures the product's closing and search beside the plain C versions: both work on the same sheets by turns, and each answer and each table is
+   compared. */
 #include "plain.h"
 #include "sheets.h"
 
@@ -12,16 +13,22 @@ enum { CLOCK_MONOTONIC = 1 };
 
 int clock_gettime(int clock, struct timespec *now);
 int printf(const char *format, ...);
-void exit(int status);
+_Noreturn void exit(int status);
 void *memcpy(void *to, const void *from, size_t n);
 int memcmp(const void *one, const void *other, size_t n);
 
-/* The product's call, with the same meaning as plain_close. */
+/* The product's calls, with the same meaning as plain_close and plain_search. */
 uint64_t talung_close(const uint16_t *words, size_t n, uint8_t *table, size_t m);
-
-typedef uint64_t closing(const uint16_t *words, size_t n, uint8_t *table, size_t m);
+uint64_t talung_search(const uint16_t *words, size_t n, uint8_t *table, size_t m, uint32_t budget);
 
 enum {
+    CONTRADICTORY = 7,
+    NONE = 8,
+    SPENT = 9
+};
+
+enum {
+    GROUPS = CLOSED_GROUPS + SEARCHED_GROUPS,
     TURNS = 15,
     LEAST_TURN_NS = 5000000,
     BATCH = 48
@@ -36,6 +43,34 @@ static uint8_t tables[MOST_SHEETS][MOST_TABLE];
 static uint64_t batch_answers[BATCH];
 static _Alignas(64) uint8_t batch_tables[BATCH][MOST_TABLE];
 
+/* ---- what is measured */
+
+typedef uint64_t work(const struct sheet *s, uint8_t *table);
+
+static uint64_t product_closes(const struct sheet *s, uint8_t *table)
+{
+    return talung_close(s->words, s->n, table, s->m);
+}
+
+static uint64_t plain_closes(const struct sheet *s, uint8_t *table)
+{
+    return plain_close(s->words, s->n, table, s->m);
+}
+
+static uint64_t product_searches(const struct sheet *s, uint8_t *table)
+{
+    return talung_search(s->words, s->n, table, s->m, s->budget);
+}
+
+static uint64_t plain_searches(const struct sheet *s, uint8_t *table)
+{
+    return plain_search(s->words, s->n, table, s->m, s->budget);
+}
+
+/* For each task, how the product does it and how plain C does. */
+static work *const by_product[] = {[CLOSE] = product_closes, [SEARCH] = product_searches};
+static work *const by_plain[] = {[CLOSE] = plain_closes, [SEARCH] = plain_searches};
+
 static unsigned number_of(uint64_t answer)
 {
     return answer % 256;
@@ -46,58 +81,140 @@ static unsigned long count_of(uint64_t answer)
     return answer / 256;
 }
 
+/* ---- comparing */
+
+/* Ends the program, with what is wrong. */
+static _Noreturn void fail(const struct group *g, size_t i, const char *what)
+{
+    printf("%s, sheet %lu: %s\n", g->name, (unsigned long)i, what);
+    exit(1);
+}
+
 /* The product and plain C have answered a sheet: ends the program unless they say the same and leave the same table. */
 static void compare(const struct group *g, size_t i, uint64_t product, const uint8_t *product_table, uint64_t plain, const uint8_t *plain_table)
 {
     if (product != plain) {
-        printf("%s, sheet %lu: the product answers number %u count %lu, plain C number %u count %lu\n", g->name, (unsigned long)i, number_of(product),
-               count_of(product), number_of(plain), count_of(plain));
-        exit(1);
+        printf("the product answers number %u count %lu, plain C number %u count %lu\n", number_of(product), count_of(product), number_of(plain),
+               count_of(plain));
+        fail(g, i, "the answers differ");
     }
     for (size_t k = 0; k < MOST_TABLE; k++) {
         if (product_table[k] != plain_table[k]) {
-            printf("%s, sheet %lu: the product leaves %u at cell %lu, plain C %u\n", g->name, (unsigned long)i, product_table[k], (unsigned long)k,
-                   plain_table[k]);
-            exit(1);
+            printf("the product leaves %u at cell %lu, plain C %u\n", product_table[k], (unsigned long)k, plain_table[k]);
+            fail(g, i, "the tables differ");
         }
     }
 }
 
-/* Ends the program unless the answer is of the kind that the sheet was made for, and the table has kept the site or is as it came. */
-static void expect(const struct group *g, size_t i, uint64_t answer, const uint8_t *table)
+/* Ends the program unless the answer has this number; and, if that is a refusal, no count but of tries, and the table is as it came. */
+static void expect(const struct group *g, size_t i, uint64_t answer, unsigned number, const uint8_t *table)
+{
+    if (number_of(answer) != number || (0 < number && number < NONE && count_of(answer))) {
+        printf("answered number %u count %lu, made for number %u\n", number_of(answer), count_of(answer), number);
+        fail(g, i, "not answered as it should be");
+    }
+    if (number && memcmp(table, g->sheets[i].table, MOST_TABLE))
+        fail(g, i, "refused, but the table is not as it came");
+}
+
+/* Ends the program unless the closed table has kept the site. */
+static void expect_site(const struct group *g, size_t i, const uint8_t *table)
 {
     const struct sheet *s = &g->sheets[i];
-    if (number_of(answer) != s->number || (s->number && count_of(answer))) {
-        printf("%s, sheet %lu: made for number %u, answered number %u count %lu\n", g->name, (unsigned long)i, s->number, number_of(answer),
-               count_of(answer));
-        exit(1);
-    }
-    if (s->number && memcmp(table, s->table, MOST_TABLE)) {
-        printf("%s, sheet %lu: refused, but the table is not as it came\n", g->name, (unsigned long)i);
-        exit(1);
-    }
     for (size_t k = 0; k < MOST_CELLS; k++) {
-        if (s->site[k] & ~table[k]) {
-            printf("%s, sheet %lu: cell %lu has lost the site's relation\n", g->name, (unsigned long)i, (unsigned long)k);
-            exit(1);
-        }
+        if (s->site[k] & ~table[k])
+            fail(g, i, "a cell has lost the site's relation");
     }
 }
 
-/* Closes each sheet of a group once by both, and keeps what they answer. */
-static void check(const struct group *g)
+/* Ends the program unless the table is an arrangement, closed and of single relations, and does not come after the site in the order. */
+static void expect_arrangement(const struct group *g, size_t i, const uint8_t *table)
+{
+    const struct sheet *s = &g->sheets[i];
+    uint8_t closed[MOST_TABLE];
+    memcpy(closed, table, MOST_TABLE);
+    if (plain_close(s->words, s->n, closed, s->m))
+        fail(g, i, "the table found is not closed");
+    for (size_t k = 0; k < s->m; k++) {
+        if (table[k] & (table[k] - 1))
+            fail(g, i, "the table found has a cell of several relations");
+    }
+    if (s->site[0] && memcmp(table, s->site, s->m) > 0)
+        fail(g, i, "the arrangement found is not the least");
+}
+
+/* Closes or searches each sheet of a group once by both, and keeps what they answer. */
+static void answer_group(const struct group *g)
 {
     for (size_t i = 0; i < g->count; i++) {
         const struct sheet *s = &g->sheets[i];
         uint8_t table[MOST_TABLE];
         memcpy(table, s->table, MOST_TABLE);
         memcpy(tables[i], s->table, MOST_TABLE);
-        answers[i] = plain_close(s->words, s->n, tables[i], s->m);
-        uint64_t answer = talung_close(s->words, s->n, table, s->m);
-        compare(g, i, answer, table, answers[i], tables[i]);
-        expect(g, i, answers[i], tables[i]);
+        answers[i] = by_plain[g->task](s, tables[i]);
+        compare(g, i, by_product[g->task](s, table), table, answers[i], tables[i]);
     }
 }
+
+/* Searches a sheet with this budget by both, and leaves their table. */
+static uint64_t search(const struct group *g, size_t i, uint32_t budget, uint8_t *table)
+{
+    const struct sheet *s = &g->sheets[i];
+    uint8_t other[MOST_TABLE];
+    memcpy(table, s->table, MOST_TABLE);
+    memcpy(other, s->table, MOST_TABLE);
+    uint64_t answer = plain_search(s->words, s->n, table, s->m, budget);
+    compare(g, i, talung_search(s->words, s->n, other, s->m, budget), other, answer, table);
+    return answer;
+}
+
+/* Checks a group that is closed; and that the search refuses what closing refuses, a contradiction with no try, and else finds an arrangement. */
+static void check_closed(const struct group *g)
+{
+    answer_group(g);
+    for (size_t i = 0; i < g->count; i++) {
+        unsigned number = g->sheets[i].number;
+        expect(g, i, answers[i], number, tables[i]);
+        expect_site(g, i, tables[i]);
+        uint8_t table[MOST_TABLE];
+        uint64_t answer = search(g, i, BUDGET, table);
+        expect(g, i, answer, number == CONTRADICTORY ? NONE : number, table);
+        if (number == CONTRADICTORY && count_of(answer))
+            fail(g, i, "tries in a contradictory table");
+        if (number == 0)
+            expect_arrangement(g, i, table);
+    }
+}
+
+/* Checks that a sheet which was given this answer runs out of another budget exactly if it takes more tries. */
+static void check_budget(const struct group *g, size_t i, uint64_t answer, uint32_t budget)
+{
+    uint8_t table[MOST_TABLE];
+    uint64_t other = search(g, i, budget, table);
+    int spent = number_of(answer) == SPENT || count_of(answer) > budget;
+    expect(g, i, other, spent ? SPENT : number_of(answer), table);
+    if (count_of(other) != (spent ? budget : count_of(answer)))
+        fail(g, i, "another number of tries with another budget");
+}
+
+/* Checks a group that is searched, with the sheets' own budget and with others. */
+static void check_searched(const struct group *g)
+{
+    answer_group(g);
+    for (size_t i = 0; i < g->count; i++) {
+        uint64_t answer = answers[i];
+        uint32_t count = count_of(answer);
+        expect(g, i, answer, g->sheets[i].number, tables[i]);
+        if (number_of(answer) == 0)
+            expect_arrangement(g, i, tables[i]);
+        if (count > 0)
+            check_budget(g, i, answer, count - 1);
+        check_budget(g, i, answer, count);
+        check_budget(g, i, answer, count + 1);
+    }
+}
+
+/* ---- measuring */
 
 static uint64_t nanoseconds(void)
 {
@@ -106,14 +223,14 @@ static uint64_t nanoseconds(void)
     return 1000000000u * (uint64_t)now.tv_sec + (uint64_t)now.tv_nsec;
 }
 
-/* As many whole rounds of a group's sheets as make a batch. */
+/* As many whole rounds of a group's sheets as make a batch; of searches, which take longer, one round. */
 static size_t batch_of(const struct group *g)
 {
-    return BATCH / g->count * g->count;
+    return g->task == SEARCH ? g->count : BATCH / g->count * g->count;
 }
 
-/* Closes a batch as many times as this, each time on fresh tables, and answers the time of the closings alone. */
-static uint64_t run(closing *call, const struct group *g, size_t repetitions)
+/* Closes or searches a batch as many times as this, each time on fresh tables, and answers the time of the calls alone. */
+static uint64_t run(work *call, const struct group *g, size_t repetitions)
 {
     size_t batch = batch_of(g);
     uint64_t time = 0;
@@ -122,18 +239,15 @@ static uint64_t run(closing *call, const struct group *g, size_t repetitions)
             memcpy(batch_tables[i], g->sheets[i % g->count].table, MOST_TABLE);
         uint64_t start = nanoseconds();
         for (size_t i = 0, j = 0; i < batch; i++) {
-            const struct sheet *s = &g->sheets[j];
-            batch_answers[i] = call(s->words, s->n, batch_tables[i], s->m);
+            batch_answers[i] = call(&g->sheets[j], batch_tables[i]);
             if (++j == g->count)
                 j = 0;
         }
         time += nanoseconds() - start;
         for (size_t i = 0; i < batch; i++) {
             size_t j = i % g->count;
-            if (batch_answers[i] != answers[j] || memcmp(batch_tables[i], tables[j], MOST_TABLE)) {
-                printf("%s, sheet %lu: answered otherwise than before\n", g->name, (unsigned long)j);
-                exit(1);
-            }
+            if (batch_answers[i] != answers[j] || memcmp(batch_tables[i], tables[j], MOST_TABLE))
+                fail(g, j, "answered otherwise than before");
         }
     }
     return time;
@@ -155,20 +269,22 @@ static double median(double *values, size_t n)
 /* Measures a group, prints its line and answers its ratio. */
 static double measure(const struct group *g)
 {
+    work *one = by_product[g->task];
+    work *other = by_plain[g->task];
     size_t repetitions = 1;
-    while (run(talung_close, g, repetitions) < LEAST_TURN_NS || run(plain_close, g, repetitions) < LEAST_TURN_NS)
+    while (run(one, g, repetitions) < LEAST_TURN_NS || run(other, g, repetitions) < LEAST_TURN_NS)
         repetitions *= 2;
-    double closings = (double)(repetitions * batch_of(g));
+    double calls = (double)(repetitions * batch_of(g));
     double product[TURNS];
     double plain[TURNS];
     double ratio[TURNS];
     for (size_t turn = 0; turn < TURNS; turn++) {
         if (turn % 2 == 0) {
-            product[turn] = (double)run(talung_close, g, repetitions) / closings;
-            plain[turn] = (double)run(plain_close, g, repetitions) / closings;
+            product[turn] = (double)run(one, g, repetitions) / calls;
+            plain[turn] = (double)run(other, g, repetitions) / calls;
         } else {
-            plain[turn] = (double)run(plain_close, g, repetitions) / closings;
-            product[turn] = (double)run(talung_close, g, repetitions) / closings;
+            plain[turn] = (double)run(other, g, repetitions) / calls;
+            product[turn] = (double)run(one, g, repetitions) / calls;
         }
         ratio[turn] = product[turn] / plain[turn];
     }
@@ -179,14 +295,17 @@ static double measure(const struct group *g)
 
 int main(void)
 {
-    make_groups(groups);
-    for (size_t i = 0; i < GROUPS; i++)
-        check(&groups[i]);
+    make_closed_groups(groups);
+    make_searched_groups(groups + CLOSED_GROUPS);
+    for (size_t i = 0; i < CLOSED_GROUPS; i++)
+        check_closed(&groups[i]);
+    for (size_t i = CLOSED_GROUPS; i < GROUPS; i++)
+        check_searched(&groups[i]);
     printf("%-14s %6s %12s %12s %8s\n", "group", "sheets", "product ns", "plain C ns", "ratio");
     const char *name = "";
     double largest = 0;
     for (size_t i = 0; i < GROUPS; i++) {
-        check(&groups[i]);
+        answer_group(&groups[i]);
         double ratio = measure(&groups[i]);
         if (ratio > largest) {
             largest = ratio;

@@ -1,13 +1,12 @@
 /* Closing a table in plain C, by the product's method: the same passes in the same order. */
-#include "plain.h"
+#include "plain_parts.h"
 
-/* Sets of relations: same board, above, below, side, and all of them. */
+/* Sets of relations: same board, above, below, side, and some of them together. */
 enum {
     E = 1,
     A = 2,
     B = 4,
     S = 8,
-    FULL = 15,
     AT_OR_ABOVE = 3,
     NOT_ABOVE = 13,
     NOT_SAME = 14
@@ -17,12 +16,10 @@ enum {
 enum {
     HEADER_WORDS = 6,
     HEAD_WORDS = 3,
-    MOST_BOARDS = 16,
     MOST_LINES = 128,
     MOST_KINDS = 16,
     MOST_WORDS = 15,
-    MOST_WAYS = 8,
-    MOST_CELLS = 256
+    MOST_WAYS = 8
 };
 
 /* Refusals. */
@@ -41,13 +38,6 @@ enum {
     UNION = 4,
     COMPLEMENT = 6,
     INVERSE = 7
-};
-
-struct header {
-    size_t boards;
-    size_t lines;
-    size_t kinds;
-    size_t middle;
 };
 
 /* The relation of p to q is one of the allowed. */
@@ -401,8 +391,7 @@ static int rounds(size_t v, size_t count, const uint16_t *words, uint8_t *cells)
     }
 }
 
-/* Closes the cells under the description. Answers the number struck, or -1 if a cell is empty. */
-static int settle(const struct header *h, const uint16_t *words, uint8_t *cells)
+int settle(const struct header *h, const uint16_t *words, uint8_t *cells)
 {
     size_t v = h->boards;
     const uint16_t *kinds = words + h->middle;
@@ -413,20 +402,33 @@ static int settle(const struct header *h, const uint16_t *words, uint8_t *cells)
     return more < 0 ? -1 : struck + more;
 }
 
-uint64_t plain_close(const uint16_t *words, size_t n, uint8_t *table, size_t m)
+int settle_again(const struct header *h, const uint16_t *words, uint8_t *cells)
 {
-    struct header h;
-    int refusal = read_description(words, n, &h);
+    return rounds(h->boards, h->kinds, words + h->middle, cells);
+}
+
+int take(const uint16_t *words, size_t n, const uint8_t *table, size_t m, struct header *h, uint8_t *cells)
+{
+    int refusal = read_description(words, n, h);
     if (refusal)
         return refusal;
-    if (m != h.boards * h.boards)
+    if (m != h->boards * h->boards)
         return NO_TABLE;
-    uint8_t cells[MOST_CELLS];
     for (size_t i = 0; i < m; i++) {
         if (table[i] > FULL)
             return NO_TABLE;
         cells[i] = table[i];
     }
+    return 0;
+}
+
+uint64_t plain_close(const uint16_t *words, size_t n, uint8_t *table, size_t m)
+{
+    struct header h;
+    uint8_t cells[MOST_CELLS];
+    int refusal = take(words, n, table, m, &h, cells);
+    if (refusal)
+        return refusal;
     int struck = settle(&h, words, cells);
     if (struck < 0)
         return CONTRADICTORY;

@@ -1,5 +1,5 @@
 #!/bin/sh
-# Measures the product's closing beside a plain C version of the same method, and compares all that they answer.
+# Measures the product's closing and search beside plain C versions of the same methods, and compares all that they answer.
 # It needs target/staticlib/libtalung.a, which 'rt staticlib talung' makes; what it builds itself goes to target/bench/.
 # Everything is compiled and linked for x86-64 with the tools of the Rattle kit. On another kind of machine the program runs under the kit's emulator, and
 # its times say nothing.
@@ -32,15 +32,20 @@ compile() { # FILE OBJECT WORDS...
 }
 
 compile plain.c plain.o -O3
+compile plain_search.c plain_search.o -O3
 compile sites.c sites.o -O2
 compile sheets.c sheets.o -O2
+compile searches.c searches.o -O2
 compile driver.c driver.o -O2
 
 for shift in 0 16 32 48; do
     compile shift.S shift.o "-DSHIFT=$shift"
-    program=$built/closings-$shift
-    "$own/bin/rattle-link" --target x86_64-unknown-linux-gnu --toolchain "$tools" -o "$program" "$built/driver.o" "$built/sheets.o" "$built/sites.o" \
-        "$built/shift.o" "$built/plain.o" "$library" 2>"$built/link.log" || { cat "$built/link.log" >&2; die "the program does not link"; }
+    program=$built/bench-$shift
+    "$own/bin/rattle-link" --target x86_64-unknown-linux-gnu --toolchain "$tools" -o "$program" "$built/driver.o" "$built/sheets.o" "$built/searches.o" \
+        "$built/sites.o" "$built/shift.o" "$built/plain.o" "$built/plain_search.o" "$library" 2>"$built/link.log" || {
+        cat "$built/link.log" >&2
+        die "the program does not link"
+    }
     ${emulator:+"$emulator"} "$tools/lib/ld-linux-x86-64.so.2" --library-path "$tools/lib" "$program" >"$built/times-$shift" || {
         status=$?
         cat "$built/times-$shift" >&2

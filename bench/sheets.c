@@ -1,4 +1,4 @@
-/* The groups of sheets. Most sheets are taken off a site, so that they do not contradict themselves. */
+/* The groups of sheets that are closed. Most sheets are taken off a site, so that they do not contradict themselves. */
 #include "sheets.h"
 #include "sites.h"
 
@@ -8,12 +8,6 @@
 static void make_full(struct sheet *s)
 {
     begin(s, 16);
-}
-
-static void add_holding_lines(struct sheet *s, const struct site *site, size_t count, size_t longest)
-{
-    for (size_t i = 0; i < count; i++)
-        add_holding_line(s, site, longest);
 }
 
 /* Few relation lines. */
@@ -289,6 +283,7 @@ static void make_refused(struct sheet *s, size_t kind)
 static void fill(struct group *g, const char *name, size_t count, void (*make)(struct sheet *))
 {
     g->name = name;
+    g->task = CLOSE;
     g->count = count;
     for (size_t i = 0; i < count; i++)
         make(&g->sheets[i]);
@@ -298,12 +293,13 @@ static void fill(struct group *g, const char *name, size_t count, void (*make)(s
 static void fill_kinds(struct group *g, const char *name, size_t count, size_t kinds, void (*make)(struct sheet *, size_t))
 {
     g->name = name;
+    g->task = CLOSE;
     g->count = count;
     for (size_t i = 0; i < count; i++)
         make(&g->sheets[i], i % kinds);
 }
 
-void make_groups(struct group groups[GROUPS])
+void make_closed_groups(struct group groups[CLOSED_GROUPS])
 {
     seed(1);
     fill(&groups[0], "full 16", 1, make_full);

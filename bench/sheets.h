@@ -1,4 +1,4 @@
-/* The sheets that are closed: descriptions with the table that is lent for each, in groups. */
+/* The sheets that are closed or searched: descriptions with the table that is lent for each, in groups. */
 #ifndef SHEETS_H
 #define SHEETS_H
 
@@ -10,27 +10,35 @@ enum {
     MOST_TABLE = 320,
     LONGEST = 2486,
     MOST_SHEETS = 48,
-    GROUPS = 8
+    BUDGET = 10000,
+    CLOSED_GROUPS = 8,
+    SEARCHED_GROUPS = 10
 };
 
-/* A description, the table lent with it, and the number that closing must answer. Where the description was taken off a site, the site's relation for
-   each cell, which the closed table must still have; else zeros. */
+/* A description, the table and the budget lent with it, and the number that must be answered. Where the description was taken off a site, the site's
+   relation for each cell, which the closed table must still have, and which no arrangement found may come after; else zeros. */
 struct sheet {
     uint16_t words[LONGEST];
     size_t n;
     uint8_t table[MOST_TABLE];
     size_t m;
+    uint32_t budget;
     uint8_t number;
     uint8_t site[MOST_CELLS];
 };
 
+/* What is done with the sheets of a group. */
+enum task { CLOSE, SEARCH };
+
 struct group {
     const char *name;
+    enum task task;
     size_t count;
     struct sheet sheets[MOST_SHEETS];
 };
 
-/* Makes the groups, the same in every run. */
-void make_groups(struct group groups[GROUPS]);
+/* Make the groups, the same in every run. */
+void make_closed_groups(struct group groups[CLOSED_GROUPS]);
+void make_searched_groups(struct group groups[SEARCHED_GROUPS]);
 
 #endif

@@ -129,6 +129,7 @@ void begin(struct sheet *s, size_t boards)
     s->words[5] = HEADER;
     s->n = HEADER;
     s->m = boards * boards;
+    s->budget = BUDGET;
     s->number = 0;
     for (size_t k = 0; k < MOST_TABLE; k++)
         s->table[k] = 15;
@@ -154,6 +155,21 @@ void add_relation_line(struct sheet *s, size_t p, size_t q, const uint16_t *expr
     add_words(s, p, q, expression, length);
     s->words[1]++;
     s->words[4] = s->n;
+}
+
+void add_set_line(struct sheet *s, size_t p, size_t q, uint8_t set)
+{
+    uint16_t expression[MOST_WORDS];
+    size_t length = 0;
+    for (uint16_t relation = 0; relation < 4; relation++) {
+        uint8_t rest = set >> relation;
+        if (rest % 2 == 0)
+            continue;
+        if (rest > 1)
+            expression[length++] = UNION;
+        expression[length++] = relation;
+    }
+    add_relation_line(s, p, q, expression, length);
 }
 
 void add_kind_line(struct sheet *s, size_t p, uint16_t code, const uint16_t *ways, size_t count)
@@ -202,9 +218,10 @@ static void add_drawn_line(struct sheet *s, const struct site *site, size_t long
     add_relation_line(s, p, q, expression, length);
 }
 
-void add_holding_line(struct sheet *s, const struct site *site, size_t longest)
+void add_holding_lines(struct sheet *s, const struct site *site, size_t count, size_t longest)
 {
-    add_drawn_line(s, site, longest, 1);
+    for (size_t i = 0; i < count; i++)
+        add_drawn_line(s, site, longest, 1);
 }
 
 void add_failing_line(struct sheet *s, const struct site *site, size_t longest)

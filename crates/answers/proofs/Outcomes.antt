@@ -11,3 +11,14 @@ outcome-determined a b u w p = (ap answered p, ap (λ (o : Outcome). o .table) p
   where
     answered : Outcome → Answer
     answered o = record { number = o .number; count = o .count }
+
+-- what is read off an outcome
+module _ {a : Answer} {w : List ℕ} {o : Outcome} (is : outcome a w ≡ o) where
+  pub says : a .number ≡ o .number
+  says = ap (λ (o : Outcome). o .number) is
+
+  pub counts : a .count ≡ o .count
+  counts = ap (λ (o : Outcome). o .count) is
+
+  pub leaves : w ≡ o .table
+  leaves = ap (λ (o : Outcome). o .table) is

@@ -5,9 +5,5 @@ pub mod Spreading
 pub mod Feeding
 pub mod Twinning
 pub mod Passing
-pub mod Copies
 pub mod Closings
 pub mod Determined
-pub mod Demand1
-pub mod Demand3
-pub mod Refuted

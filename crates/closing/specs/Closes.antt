@@ -1,18 +1,20 @@
 -- What closing a working copy of a table comes to. Assumes nothing.
 use mathlib.Core.Path.{_≡_}
-use mathlib.Core.Bool.{Bool, true}
-use mathlib.Core.List.{List}
+use mathlib.Core.List.{List, _++_}
 use Prim.Native.Nat.{ℕ, _+_, _*_, _≤_}
-use lib.Dec.{T, ltb}
+use lib.Dec.{T}
 use lib.ListN.{length}
-use Rattle.rules.specs.Relations.{eachOf, sets}
 use Rattle.rules.specs.Descriptions.{mostBoards, Sheet, good, read}
-use Rattle.rules.specs.Tables.{emptied, total}
+use Rattle.rules.specs.Tables.{Inside, emptied, total}
 use Rattle.rules.specs.Closed.{Largest}
-use Rattle.rules.specs.Closing.{closing}
-use Rattle.passes.specs.Passes.{Filled}
+use Rattle.rules.specs.Closing.{Rule, rules1, rules4, rules5, closing}
+use Rattle.passes.specs.Passes.{Filled, Idles}
 use Rattle.closing.specs.declared.sweeps.Swept.{Swept}
 use Rattle.closing.specs.declared.sweeps.Swept.the-variants.{Struck, Emptied}
+
+-- the rules whose bounds stay, whatever the table
+abbrev pub staying : Sheet → List Rule
+staying s = rules1 (s .boards) ++ (rules4 (s .lines) ++ rules5 (s .kinds))
 
 -- w is the largest closed table inside t, without an empty cell, and has n relations less
 pub record Closes (s : Sheet) (t w : List ℕ) (n : ℕ) : Type 0 where
@@ -35,7 +37,6 @@ pub record Working (v : ℕ) (t w : List ℕ) : Type 0 where
   pub table : length t ≡ v * v
   pub cells : length w ≡ v * v
 
--- b says whether each cell of t is a set, and then w is a copy of it
-pub record Copied (t w : List ℕ) (b : Bool) : Type 0 where
-  pub said : b ≡ eachOf (λ x. ltb x sets) t
-  pub copy : b ≡ true → w ≡ t
+-- in every table inside t the rules whose bounds stay strike nothing, under the description that the words mean
+abbrev pub Steady : List ℕ → List ℕ → Type 0
+Steady ws t = (s : Sheet) → read ws ≡ good s → (x : List ℕ) → Inside x t → Idles (s .boards) (staying s) x

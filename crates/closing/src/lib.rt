@@ -2,31 +2,26 @@
 mod lines;
 mod panels;
 mod rounds;
-mod sweeps;
+pub mod sweeps;
 mod twins;
 
 ghost use mathlib.Core.Path.{_≡_};
-ghost use lib.ListN.{length};
 ghost use Rattle.rules.specs.Calls.{close};
 ghost use Rattle.answers.specs.Answers.{outcome};
 ghost use Rattle.sheet.specs.declared.header.HeaderFound.the-variants.{Good};
 ghost use Rattle.sheet.specs.Found.{descriptionFound};
-ghost use Rattle.passes.specs.Passes.{mostCells, Ready};
-ghost use Rattle.closing.specs.Closes.{ClosesUnder, Copied, Working};
+ghost use Rattle.passes.specs.Passes.{Ready};
+ghost use Rattle.closing.specs.Closes.{ClosesUnder, Steady, Working};
 use crate::sweeps::Swept;
 use answers::Answer;
 use sheet::header::Header;
 use sheet::header::HeaderFound;
-use sheet::header::MOST_BOARDS;
 
 // The refusal of a closing: the largest closed table has an empty cell.
 pub const CONTRADICTORY: u8 = 7;
 
-// The most cells of a table.
-const MOST_CELLS: usize = MOST_BOARDS * MOST_BOARDS;
-
-// Closes the cells under the description that the words mean, whose header this is.
-fn settle(h: Header, words: &[u16], cells: &mut [u8]) -> Swept
+// Closes the cells under the description that the words mean, whose header this is. After `Emptied` the cells are of no use.
+pub fn settle(h: Header, words: &[u16], cells: &mut [u8]) -> Swept
     requires { ⌜ (Good h ≡ descriptionFound (now words)) × Ready (h .boards) (now cells) ⌝ }
     ensures { λ r. ⌜ ClosesUnder (now (words .entry)) (now (cells .entry)) (now (cells .exit)) r ⌝ }
 {
@@ -41,28 +36,13 @@ fn settle(h: Header, words: &[u16], cells: &mut [u8]) -> Swept
     Swept::Struck(struck + more)
 }
 
-// Copies a table of as many cells, and says whether each cell is a set.
-fn copied(table: &[u8], cells: &mut [u8]) -> bool
-    requires { ⌜ length (now cells) ≡ length (now table) ⌝ }
-    ensures { λ b. ⌜ Copied (now (table .entry)) (now (cells .exit)) b ⌝ }
+// The same of cells that lie inside a closed table, in which the rules whose bounds stay strike nothing.
+pub fn settle_again(h: Header, words: &[u16], cells: &mut [u8]) -> Swept
+    requires { ⌜ (Good h ≡ descriptionFound (now words)) × Ready (h .boards) (now cells) × Steady (now words) (now cells) ⌝ }
+    ensures { λ r. ⌜ ClosesUnder (now (words .entry)) (now (cells .entry)) (now (cells .exit)) r ⌝ }
 {
-    for i in 0..table.len() {
-        if relations::FULL < table[i] {
-            return false;
-        }
-        cells[i] = table[i];
-    }
-    true
-}
-
-// Copies the cells back to a table of as many.
-fn put_back(cells: &[u8], table: &mut [u8])
-    requires { ⌜ length (now table) ≡ length (now cells) ⌝ }
-    ensures { λ _. ⌜ now (table .exit) ≡ now (cells .entry) ⌝ }
-{
-    for i in 0..cells.len() {
-        table[i] = cells[i];
-    }
+    let middle = h.middle;
+    rounds::rounds(h.boards, h.kinds, &words[middle..], cells)
 }
 
 // Closes a table of the right number of cells, by a working copy of it.
@@ -70,7 +50,7 @@ fn close_by_copy(h: Header, words: &[u16], table: &mut [u8], cells: &mut [u8]) -
     requires { ⌜ (Good h ≡ descriptionFound (now words)) × Working (h .boards) (now table) (now cells) ⌝ }
     ensures { λ a. ⌜ outcome a (now (table .exit)) ≡ close (now (words .entry)) (now (table .entry)) ⌝ }
 {
-    if !copied(table, cells) {
+    if !tables::copied(table, cells) {
         return Answer {
             number: tables::NO_TABLE,
             count: 0,
@@ -82,18 +62,11 @@ fn close_by_copy(h: Header, words: &[u16], table: &mut [u8], cells: &mut [u8]) -
             count: 0,
         };
     };
-    put_back(cells, table);
+    tables::copy(cells, table);
     Answer {
         number: 0,
         count: struck,
     }
-}
-
-// Room for the working copy.
-fn room() -> [u8; MOST_CELLS]
-    ensures { λ r. ⌜ length r ≡ mostCells ⌝ }
-{
-    [0; MOST_CELLS]
 }
 
 // Replaces the lent table by the largest closed table inside it, and answers how many relations that struck. Refuses a description with 1 to 5, then a
@@ -117,6 +90,6 @@ pub fn close(words: &[u16], table: &mut [u8]) -> Answer
             count: 0,
         };
     }
-    let mut cells = room();
+    let mut cells = tables::room();
     close_by_copy(h, words, table, &mut cells[..n])
 }

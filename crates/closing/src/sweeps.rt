@@ -4,7 +4,7 @@ ghost use Rattle.passes.specs.Passes.{Ready, Pass, Quiet, Once};
 ghost use Rattle.closing.specs.Sweeps.{sweeping};
 
 // How many relations a sweep struck, or that it came to an empty cell and was left there.
-pub(crate) enum Swept {
+pub enum Swept {
     Struck(u32),
     Emptied,
 }

@@ -1,7 +1,7 @@
 -- Any two answers that a contract of this crate permits are equal. Assumes nothing.
 use mathlib.Core.Path.{_≡_, sym, _∙_, subst}
 use mathlib.Core.List.{List}
-use Prim.Native.Nat.{ℕ, _+_, _*_, _/_, _%_, _<_}
+use Prim.Native.Nat.{ℕ, _+_, _*_, _/_, _%_, _^_, _<_}
 use native.Mathlib.Omega.{arith}
 use lib.ListN.{length, getD}
 use lib.Seq.{ext-getD}
@@ -30,6 +30,9 @@ module _ (x z w : ℕ) where
 
   pub size-determined : z ≡ size x → w ≡ size x → z ≡ w
   size-determined g h = cc
+
+pub single-determined : (r z w : ℕ) → z ≡ 2 ^ r → w ≡ 2 ^ r → z ≡ w
+single-determined r z w g h = cc
 
 -- two tables of compositions are equal
 pub composition-table-determined : (t u : List ℕ) → Composes t → Composes u → t ≡ u

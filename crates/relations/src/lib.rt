@@ -2,7 +2,7 @@
 mod compositions;
 
 ghost use mathlib.Core.Path.{_≡_};
-ghost use Prim.Native.Nat.{_<_};
+ghost use Prim.Native.Nat.{_^_, _<_};
 ghost use Rattle.rules.specs.Relations.{relations, sets, meet, join, complement, converse, size, composed, compose};
 ghost use Rattle.relations.specs.Composing.{Composes};
 
@@ -121,6 +121,14 @@ pub fn converse(x: u8) -> u8
     ensures { λ z. ⌜ z ≡ converse x ⌝ }
 {
     CONVERSES[wide(x)]
+}
+
+// The set of one relation, given by its number.
+pub fn single(r: u8) -> u8
+    requires { ⌜ r < relations ⌝ }
+    ensures { λ z. ⌜ z ≡ 2 ^ r ⌝ }
+{
+    1 << r
 }
 
 // The number of relations in the set.

@@ -18,7 +18,7 @@ use Rattle.rules.proofs.Order.{agree-equal, before-irrefl, before-trans
 -- the order of 01 has each relation once
 pub plain-order : Order plainOrder
 unfolding relations
-plain-order = record { once = refl; each = λ r h. member r h }
+plain-order = record { only = tt; each = λ r h. member r h; once = tt }
   where
     member : (r : ℕ) → r < 4 → List·Memᴰ r plainOrder
     member zero h = List·Memᴰ·head refl
@@ -81,7 +81,7 @@ module _ {s : Sheet} (f : WellFormed s) {clo : List ℕ → List ℕ} (closes : 
 
 -- ---- the budget
 
-cap-case : (b : ℕ) (e : End) → ((tries e ≤ b) × (cap b e ≡ ended e)) ⊎ ((b < tries e) × (cap b e ≡ ranOut b))
+pub cap-case : (b : ℕ) (e : End) → ((tries e ≤ b) × (cap b e ≡ ended e)) ⊎ ((b < tries e) × (cap b e ≡ ranOut b))
 unfolding cap
 cap-case b e = from (leb (tries e) b) refl
   where
@@ -93,6 +93,9 @@ cap-case b e = from (leb (tries e) b) refl
 -- the budget runs out exactly if the search makes more tries than it
 pub cap-out : (b : ℕ) (e : End) → b < tries e → cap b e ≡ ranOut b
 cap-out b e h = ⊎-elim (λ d. let l : tries e ≤ b = d .0 in let z : ⊥ = omega arith in absurd z) (λ d. d .1) (cap-case b e)
+
+pub cap-in : (b : ℕ) (e : End) → tries e ≤ b → cap b e ≡ ended e
+cap-in b e h = ⊎-elim (λ d. d .1) (λ d. let l : b < tries e = d .0 in let z : ⊥ = omega arith in absurd z) (cap-case b e)
 
 pub out-cap : (b c : ℕ) (e : End) → cap b e ≡ ranOut c → (b < tries e) × (c ≡ b)
 out-cap b c e p = ⊎-elim (λ d. let q : cap b e ≡ ended e = d .1 in clash (cc)) (λ d. let q : cap b e ≡ ranOut b = d .1 in (d .0, cc)) (cap-case b e)

@@ -1,13 +1,13 @@
 -- The search (01, 'The search'), over any closing and any order of relations; the order of arrangements; the budget.
 -- Assumes nothing.
 use mathlib.Core.Path.{_≡_}
-use mathlib.Core.Bool.{true, false}
+use mathlib.Core.Bool.{Bool, true, false, not, _&&_}
 use mathlib.Core.Logic.{_⊎_}
 use mathlib.Core.List.{List, [], _∷_, flatMap, List·Memᴰ}
 use Prim.Native.Nat.{ℕ, suc, _+_, _*_, _^_, _<_}
-use lib.Dec.{leb, ltb}
-use lib.ListN.{length, getD, set}
-use Rattle.rules.specs.Relations.{relations, same, above, below, side, has, size}
+use lib.Dec.{T, leb, ltb, eqb}
+use lib.ListN.{getD, set}
+use Rattle.rules.specs.Relations.{eachOf, relations, same, above, below, side, has, size}
 use Rattle.rules.specs.Descriptions.{Sheet}
 use Rattle.rules.specs.Tables.{Inside, emptied, upTo}
 use Rattle.rules.specs.Arrangements.{Arrangement}
@@ -16,10 +16,16 @@ use Rattle.rules.specs.Arrangements.{Arrangement}
 abbrev pub plainOrder : List ℕ
 plainOrder = same ∷ above ∷ below ∷ side ∷ []
 
--- an order of relations has each once
+-- the numbers are all different
+abbrev pub distinct : List ℕ → Bool
+distinct [] = true
+distinct (r ∷ rs) = eachOf (λ x. not (eqb r x)) rs && distinct rs
+
+-- an order of relations has nothing else, and each once
 pub record Order (ord : List ℕ) : Type 0 where
-  pub once : length ord ≡ relations
+  pub only : T (eachOf (λ r. ltb r relations) ord)
   pub each : (r : ℕ) → r < relations → List·Memᴰ r ord
+  pub once : T (distinct ord)
 
 -- how a search ends: with an arrangement or with none, and the tries made
 pub data End : Type 0 where

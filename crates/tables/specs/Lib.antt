@@ -1,1 +1,2 @@
--- The contracts cite the definitions of the crates rules and answers.
+-- What the functions of this crate promise, beyond the definitions of the crates below.
+pub mod Copies

@@ -5,6 +5,7 @@ use native.Mathlib.Omega.{arith}
 use lib.ListN.{length, take}
 use lib.Seq.{length-take-le}
 use Rattle.tables.proofs.Freshness.{square-small}
+use Rattle.tables.proofs.Copying.{room-cells}
 use Rattle.sheet.proofs.Described.{described, undescribed}
 use Rattle.closing.proofs.Closings.{close-refused, close-no-table}
 use borrow.Author.Needs.{needs}
@@ -52,7 +53,7 @@ array-borrow-prefix-cells c =
     let d = described (start .args .words .now) _ found in
     let b = c .before .before .before .before .before .h .given .0 .0 .boards in
     let l : b * b ≤ 16 * 16 = square-small b (d .1 .few) in
-    omega (arith, c .before .room .ensures)
+    omega (arith, room-cells (c .before .room .ensures))
 
 cells-there : (c : tie.After-cells)
     → length (take (c .before .before .before .before .before .before .h .given .0 .0 .boards * c .before .before .before .before .before .before .h .given .0 .0 .boards) (c .before .before .room .result))
@@ -63,7 +64,7 @@ cells-there c =
     let d = described (start .args .words .now) _ found in
     let b = c .before .before .before .before .before .before .h .given .0 .0 .boards in
     let l : b * b ≤ 16 * 16 = square-small b (d .1 .few) in
-    length-take-le (b * b) (c .before .before .room .result) (omega (arith, c .before .before .room .ensures))
+    length-take-le (b * b) (c .before .before .room .result) (omega (arith, room-cells (c .before .before .room .ensures)))
 
 slice-aggregate-close-by-copy : tie.Need-slice-aggregate-close-by-copy
 slice-aggregate-close-by-copy c = sym (cells-there c)

@@ -2,7 +2,7 @@
 use mathlib.Core.Path.{sym, subst}
 use Rattle.passes.specs.Passes.{Ready}
 use Rattle.sheet.proofs.Described.{described}
-use Rattle.closing.proofs.Copies.{copied-none, copied-same, copied-ready}
+use Rattle.tables.proofs.Copying.{copied-none, copied-ready}
 use Rattle.closing.proofs.Closings.{close-no-table, close-emptied, close-struck}
 use borrow.Author.Needs.{needs}
 use Rattle.closing.proofs.close_by_copy.Statement.{statement}
@@ -28,7 +28,7 @@ settle-requires c κs =
     let start = c .before .before .before .before .before .before .before .before .before .before in
     let copy = c .before .before .before .before .copied .ensures in
     let left = c .before .if1 .left in
-    (start .pre .0, subst (Ready (start .args .h .boards)) (sym (copied-same copy left)) (copied-ready copy left (start .pre .1 .boards) (start .pre .1 .table)))
+    (start .pre .0, subst (Ready (start .args .h .boards)) (sym (copy .copy)) (copied-ready copy left (start .pre .1 .boards) (start .pre .1 .table)))
 
 enum-known-struck : tie.Need-enum-known-struck
 enum-known-struck c = search needs
@@ -50,10 +50,10 @@ returns-2 c =
     let left = c .before .before .before .before .before .before .if1 .left in
     let ready = copied-ready copy left (start .pre .1 .boards) (start .pre .1 .table) in
     let closed = c .before .before .before .before .settle .ensures (d .0) (d .1 .means) in
-    close-emptied (start .args .words .now) (start .args .table .now) (d .1 .means) (d .1 .boards) ready (copied-same copy left) _ _ closed (c .enum-told .given .1)
+    close-emptied (start .args .words .now) (start .args .table .now) (d .1 .means) (d .1 .boards) ready (copy .copy) _ _ closed (c .enum-told .given .1)
 
-put-back-requires : tie.Need-put-back-requires
-put-back-requires c κs = search needs
+copy-requires : tie.Need-copy-requires
+copy-requires c κs = search needs
 
 same-length-5 : tie.Need-same-length-5
 same-length-5 c = search needs
@@ -69,7 +69,7 @@ returns-3 c =
     let left = c .before .before .before .before .before .before .before .before .before .before .before .before .if1 .left in
     let ready = copied-ready copy left (start .pre .1 .boards) (start .pre .1 .table) in
     let closed = c .before .before .before .before .before .before .before .before .before .before .settle .ensures (d .0) (d .1 .means) in
-    close-struck (start .args .words .now) (start .args .table .now) (d .1 .means) (d .1 .boards) ready (copied-same copy left) _ _ closed (c .before .before .before .before .before .before .struck .given .1) (c .before .before .put-back .ensures)
+    close-struck (start .args .words .now) (start .args .table .now) (d .1 .means) (d .1 .boards) ready (copy .copy) _ _ closed (c .before .before .before .before .before .before .struck .given .1) (c .before .before .copy .ensures)
 
 pub close-by-copy-spec : {M : Type 1} → statement M
 close-by-copy-spec =
@@ -85,7 +85,7 @@ close-by-copy-spec =
     same-length-3
     same-length-4
     returns-2
-    put-back-requires
+    copy-requires
     same-length-5
     same-length-6
     returns-3)

@@ -1,0 +1,29 @@
+/* What the closing and the search in plain C share: taking a description and a table, and closing a working copy. */
+#ifndef PLAIN_PARTS_H
+#define PLAIN_PARTS_H
+
+#include "plain.h"
+
+enum {
+    FULL = 15,
+    MOST_BOARDS = 16,
+    MOST_CELLS = MOST_BOARDS * MOST_BOARDS
+};
+
+struct header {
+    size_t boards;
+    size_t lines;
+    size_t kinds;
+    size_t middle;
+};
+
+/* Reads the description of n words, and copies the table of m cells. Answers 0 or the first refusal. */
+int take(const uint16_t *words, size_t n, const uint8_t *table, size_t m, struct header *h, uint8_t *cells);
+
+/* Closes the cells under the description. Answers the number struck, or -1 if a cell is empty. */
+int settle(const struct header *h, const uint16_t *words, uint8_t *cells);
+
+/* The same of cells that lie inside a closed table, in which the rules whose bounds stay strike nothing. */
+int settle_again(const struct header *h, const uint16_t *words, uint8_t *cells);
+
+#endif

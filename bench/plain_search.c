@@ -1,0 +1,163 @@
+/* The search in plain C, by the product's method: the same tries in the same order, and one table to go back to, not one for each choice. */
+#include "plain_parts.h"
+
+/* What the search answers besides refusals of a description or a table. */
+enum {
+    FOUND = 0,
+    NONE = 8,
+    SPENT = 9
+};
+
+enum {
+    RELATIONS = 4,
+    MOST_PLACES = MOST_BOARDS * (MOST_BOARDS - 1) / 2
+};
+
+/* A pair of boards p < q, and how many such pairs come before it. After the last place comes one whose q is the number of boards. */
+struct place {
+    size_t p;
+    size_t q;
+    size_t index;
+};
+
+/* The lent table closed, the table at hand inside it, and for each place that the search has passed or stands at the relations that it may still choose
+   there, the one chosen being the first of them in the order. */
+struct state {
+    const struct header *header;
+    const uint16_t *words;
+    const uint8_t *order;
+    uint8_t first[MOST_CELLS];
+    uint8_t cells[MOST_CELLS];
+    uint8_t choices[MOST_PLACES];
+};
+
+static const struct place start = {0, 1, 0};
+
+static struct place next_place(size_t v, struct place at)
+{
+    if (at.q + 1 < v)
+        return (struct place){at.p, at.q + 1, at.index + 1};
+    return (struct place){at.p + 1, at.p + 2, at.index + 1};
+}
+
+static struct place place_before(size_t v, struct place at)
+{
+    if (at.p + 1 < at.q)
+        return (struct place){at.p, at.q - 1, at.index - 1};
+    return (struct place){at.p - 1, v - 1, at.index - 1};
+}
+
+/* The first relation of the order that the set has, as a set; none of an empty set. */
+static uint8_t pick(const uint8_t *order, uint8_t set)
+{
+    for (size_t i = 0; i < RELATIONS; i++) {
+        uint8_t relation = 1 << order[i];
+        if (set & relation)
+            return relation;
+    }
+    return 0;
+}
+
+/* The set without that relation. */
+static uint8_t less(const uint8_t *order, uint8_t set)
+{
+    return set & ~pick(order, set);
+}
+
+static int is_single(uint8_t set)
+{
+    return (set & (set - 1)) == 0;
+}
+
+/* Passes the places from this one on whose cells are single. Answers the place of the next try, or the one after the last. */
+static struct place onward(struct state *s, struct place at)
+{
+    size_t v = s->header->boards;
+    for (; at.q < v; at = next_place(v, at)) {
+        uint8_t set = s->cells[v * at.p + at.q];
+        s->choices[at.index] = set;
+        if (!is_single(set))
+            break;
+    }
+    return at;
+}
+
+/* Tries the relation that is chosen at this place. Answers whether the table at hand is closed then, and not contradictory. */
+static int try_at(struct state *s, struct place at)
+{
+    s->cells[s->header->boards * at.p + at.q] = pick(s->order, s->choices[at.index]);
+    return settle_again(s->header, s->words, s->cells) >= 0;
+}
+
+/* Goes back from a place whose try has failed to the last one with a relation left to choose. Answers whether there is one. */
+static int back(struct state *s, struct place *at)
+{
+    for (;;) {
+        uint8_t *choice = &s->choices[at->index];
+        *choice = less(s->order, *choice);
+        if (*choice)
+            return 1;
+        if (at->index == 0)
+            return 0;
+        *at = place_before(s->header->boards, *at);
+    }
+}
+
+/* Makes the table at hand anew: the first one, with what is chosen at the places before this one. */
+static void rebuild(struct state *s, struct place to)
+{
+    size_t v = s->header->boards;
+    for (size_t i = 0; i < v * v; i++)
+        s->cells[i] = s->first[i];
+    for (struct place at = start; at.index < to.index; at = next_place(v, at))
+        s->cells[v * at.p + at.q] = pick(s->order, s->choices[at.index]);
+}
+
+static uint64_t answer(unsigned number, uint32_t count)
+{
+    return number + 256 * (uint64_t)count;
+}
+
+/* Searches inside the table at hand, which is the first one. After success it is the arrangement. */
+static uint64_t search(struct state *s, uint32_t budget)
+{
+    size_t v = s->header->boards;
+    uint32_t tries = 0;
+    struct place at = onward(s, start);
+    while (at.q < v) {
+        if (tries == budget)
+            return answer(SPENT, budget);
+        tries++;
+        if (try_at(s, at)) {
+            at = onward(s, next_place(v, at));
+            continue;
+        }
+        if (!back(s, &at))
+            return answer(NONE, tries);
+        rebuild(s, at);
+    }
+    return answer(FOUND, tries);
+}
+
+uint64_t plain_search(const uint16_t *words, size_t n, uint8_t *table, size_t m, uint32_t budget)
+{
+    static const uint8_t order[RELATIONS] = {0, 1, 2, 3};
+    struct header h;
+    struct state s;
+    int refusal = take(words, n, table, m, &h, s.first);
+    if (refusal)
+        return refusal;
+    if (settle(&h, words, s.first) < 0)
+        return answer(NONE, 0);
+    s.header = &h;
+    s.words = words;
+    s.order = order;
+    for (size_t i = 0; i < m; i++)
+        s.cells[i] = s.first[i];
+    uint64_t found = search(&s, budget);
+    if (found % 256 == FOUND) {
+        for (size_t i = 0; i < m; i++)
+            table[i] = s.cells[i];
+    }
+    return found;
+}

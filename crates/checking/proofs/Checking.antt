@@ -1,0 +1,129 @@
+-- The check of a table, by its cases: what is refused before it is looked at, a cell that is not single, a table that closing strikes something of or
+-- empties, an arrangement. Assumes nothing.
+use mathlib.Core.Path.{_≡_, sym, ap, _∙_, subst}
+use mathlib.Core.Bool.{Bool, true, false, not}
+use mathlib.Core.List.{List}
+use Prim.Native.Nat.{ℕ, _+_, _≤_, _<_}
+use native.Mathlib.Omega.{arith}
+use borrow.Author.Tests.{not-true, not-false}
+use lib.Dec.{T, eqb, eqb→eq}
+use lib.ListN.{length, getD}
+use Rattle.rules.specs.Relations.{eachOf, size}
+use Rattle.rules.specs.Descriptions.{Sheet, good, refused, read}
+use Rattle.rules.specs.Tables.{Table, emptied, total}
+use Rattle.rules.specs.Closed.{Closed}
+use Rattle.rules.specs.Closing.{rules, closing}
+use Rattle.rules.specs.Calls.{Outcome, refuse, succeed, idle, arranged, check}
+use Rattle.rules.proofs.Tests.{T-true, T-false, true-T, and-T, T-and-left}
+use Rattle.rules.proofs.Sets.{⊆-within}
+use Rattle.rules.proofs.Members.{each-of-in, each-of-out, each-of-places, member-at}
+use Rattle.rules.proofs.Inside.{inside-refl, total-mono, total-tight, emptied-inside}
+use Rattle.rules.proofs.Descriptions.{read-wellFormed}
+use Rattle.rules.proofs.Rules.{closed-idle}
+use Rattle.rules.proofs.Largest.{closing-largest}
+use Rattle.rules.proofs.Arrangements.{arrangement-kept, arrangement-whole}
+use Rattle.rules.proofs.Calls.{given-refused, given-no-table, given-good, arranged-arrangement}
+use Rattle.passes.specs.Passes.{Ready}
+use Rattle.closing.specs.declared.sweeps.Swept.{Swept}
+use Rattle.closing.specs.declared.sweeps.Swept.the-variants.{Struck, Emptied}
+use Rattle.closing.specs.Closes.{Closes, closes}
+
+-- ---- single cells
+
+-- each cell has one relation, as a test
+abbrev pub singles : List ℕ → Bool
+singles t = eachOf (λ x. eqb (size x) 1) t
+
+pub singles-each : (t : List ℕ) → ((k : ℕ) → k < length t → size (getD t k 0) ≡ 1) → true ≡ singles t
+singles-each t f =
+    sym (T-true {b = singles t} (each-of-places (λ x. eqb (size x) 1) t (λ k l. subst (λ (n : ℕ). T (eqb n 1)) (sym (f k l)) tt)))
+
+pub singles-none : (t : List ℕ) (k : ℕ) → k < length t → (size (getD t k 0) ≡ 1 → ⊥) → false ≡ singles t
+singles-none t k l f =
+    sym (T-false {b = singles t} (λ a. f (eqb→eq (size (getD t k 0)) 1 (each-of-out (λ x. eqb (size x) 1) t a (getD t k 0) (member-at t k l)))))
+
+-- ---- the call
+
+module _ (ws t : List ℕ) where
+  -- the outcome under a good description: by whether the table is an arrangement
+  abbrev pub by-test : Bool → Outcome
+  by-test b = elim b [ true ↦ succeed 0 t | false ↦ refuse 10 0 t ]
+
+  after : Sheet → Outcome
+  after s = by-test (arranged s t)
+
+  pub check-refused : (n : ℕ) → read ws ≡ refused n → refuse n 0 t ≡ check ws t
+  unfolding check after
+  check-refused n e = sym (given-refused ws t after n e)
+
+  module _ (s : Sheet) (means : read ws ≡ good s) where
+    pub check-no-table : (Table (s .boards) t → ⊥) → refuse 6 0 t ≡ check ws t
+    unfolding check after
+    check-no-table f = sym (given-no-table ws t after s means f)
+
+    module _ (table : Table (s .boards) t) where
+      pub check-good : check ws t ≡ by-test (arranged s t)
+      unfolding check after
+      check-good = given-good ws t after s means table
+
+      check-arranged : T (arranged s t) → succeed 0 t ≡ check ws t
+      check-arranged a = sym (check-good ∙ ap by-test (T-true {b = arranged s t} a))
+
+      check-not : (T (arranged s t) → ⊥) → refuse 10 0 t ≡ check ws t
+      check-not f = sym (check-good ∙ ap by-test (T-false {b = arranged s t} f))
+
+      -- a cell has none or several relations
+      not-single : singles t ≡ false → T (arranged s t) → ⊥
+      unfolding arranged
+      not-single e a = subst T e (T-and-left (singles t) (eachOf (idle (s .boards) t) (rules s)) a)
+
+      -- an arrangement is kept by closing, so nothing is struck and no cell is emptied
+      kept-total : {w : List ℕ} {n : ℕ} → Closes s t w n → T (arranged s t) → n ≡ 0
+      kept-total {w} {n} k a =
+          let f = read-wellFormed ws s means in
+          let l : total t ≤ total w = total-mono (arrangement-kept f (k .largest) (arranged-arrangement f table a) (inside-refl t)) in
+          let e : n + total w ≡ total t = k .counted in
+          omega arith
+
+      not-emptied : T (emptied (closing s t)) → T (arranged s t) → ⊥
+      not-emptied e a =
+          let f = read-wellFormed ws s means in
+          let r = arranged-arrangement f table a in
+          arrangement-whole r (emptied-inside table (arrangement-kept f (closing-largest s t table) r (inside-refl t)) e)
+
+      -- a table of single cells of which closing strikes nothing is closed, so it is an arrangement
+      closed-arranged : singles t ≡ true → Closed s t → T (arranged s t)
+      unfolding arranged
+      closed-arranged e c =
+          and-T (singles t) (eachOf (idle (s .boards) t) (rules s)) (true-T e)
+          (each-of-in (idle (s .boards) t) (rules s) (λ r m. ⊆-within (closed-idle c r m)))
+
+      same-closed : {w : List ℕ} {n : ℕ} → Closes s t w n → n ≡ 0 → Closed s t
+      same-closed {w} {n} k z =
+          let e : n + total w ≡ total t = k .counted in
+          subst (Closed s) (total-tight (k .largest .table) table (k .largest .inside) (omega arith)) (k .largest .closed)
+
+-- the same of a copy u of the table, of which it is known whether its cells are single, and which was closed to w
+module _ (ws t : List ℕ) {s : Sheet} (means : read ws ≡ good s) {v : ℕ} (boards : v ≡ s .boards) (ready : Ready v t) {u : List ℕ} (copy : u ≡ t) where
+  table : Table (s .boards) t
+  table = subst (λ (n : ℕ). Table n t) boards (ready .table)
+
+  module _ {b : Bool} (said : b ≡ singles u) where
+    pub check-several : not b ≡ true → refuse 10 0 t ≡ check ws t
+    check-several e = check-not ws t s means table (not-single ws t s means table (ap singles (sym copy) ∙ sym said ∙ not-true b e))
+
+    module _ (w : List ℕ) (r : Swept) (closed : closes s u w r) where
+      under : closes s t w r
+      under = subst (λ (x : List ℕ). closes s x w r) copy closed
+
+      pub check-emptied : r ≡ Emptied → refuse 10 0 t ≡ check ws t
+      check-emptied e = check-not ws t s means table (not-emptied ws t s means table (subst (closes s t w) e under))
+
+      pub check-struck : {n : ℕ} → r ≡ Struck n → (n ≡ 0 → ⊥) → refuse 10 0 t ≡ check ws t
+      check-struck {n} e f = check-not ws t s means table (λ a. f (kept-total ws t s means table (subst (closes s t w) e under) a))
+
+      pub check-idle : {n : ℕ} → not b ≡ false → r ≡ Struck n → n ≡ 0 → succeed 0 t ≡ check ws t
+      check-idle d e z =
+          check-arranged ws t s means table
+          (closed-arranged ws t s means table (ap singles (sym copy) ∙ sym said ∙ not-false b d)
+          (same-closed ws t s means table (subst (closes s t w) e under) z))

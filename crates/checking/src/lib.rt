@@ -1,0 +1,91 @@
+// The check of a table that somebody proposes: is it an arrangement of the description?
+ghost use mathlib.Core.Path.{_≡_};
+ghost use lib.ListN.{length, getD};
+ghost use lib.Dec.{eqb};
+ghost use Prim.Native.Nat.{ℕ, _<_};
+ghost use Rattle.rules.specs.Relations.{eachOf, sets, size};
+ghost use Rattle.rules.specs.Calls.{check};
+ghost use Rattle.answers.specs.Answers.{outcome};
+ghost use Rattle.sheet.specs.declared.header.HeaderFound.the-variants.{Good};
+ghost use Rattle.sheet.specs.Found.{descriptionFound};
+ghost use Rattle.closing.specs.Closes.{Working};
+use answers::Answer;
+use closing::sweeps::Swept;
+use sheet::header::Header;
+use sheet::header::HeaderFound;
+
+// The refusal of a check: the table is no arrangement.
+pub const NO_ARRANGEMENT: u8 = 10;
+
+// Each cell has one relation.
+fn decided(cells: &[u8]) -> bool
+    requires { ⌜ ((k : ℕ) → getD (now cells) k 0 < sets) ⌝ }
+    ensures { λ b. ⌜ b ≡ eachOf (λ x. eqb (size x) 1) (now (cells .entry)) ⌝ }
+{
+    for i in 0..cells.len() {
+        if relations::size(cells[i]) != 1 {
+            return false;
+        }
+    }
+    true
+}
+
+// Checks a table of the right number of cells: in a copy of it, where each cell is decided, no rule strikes anything.
+fn check_by_copy(h: Header, words: &[u16], table: &[u8], cells: &mut [u8]) -> Answer
+    requires { ⌜ (Good h ≡ descriptionFound (now words)) × Working (h .boards) (now table) (now cells) ⌝ }
+    ensures { λ a. ⌜ outcome a (now (table .entry)) ≡ check (now (words .entry)) (now (table .entry)) ⌝ }
+{
+    if !tables::copied(table, cells) {
+        return Answer {
+            number: tables::NO_TABLE,
+            count: 0,
+        };
+    }
+    if !decided(cells) {
+        return Answer {
+            number: NO_ARRANGEMENT,
+            count: 0,
+        };
+    }
+    let Swept::Struck(struck) = closing::settle(h, words, cells) else {
+        return Answer {
+            number: NO_ARRANGEMENT,
+            count: 0,
+        };
+    };
+    if struck != 0 {
+        return Answer {
+            number: NO_ARRANGEMENT,
+            count: 0,
+        };
+    }
+    Answer {
+        number: 0,
+        count: 0,
+    }
+}
+
+// Says whether the table is an arrangement, whoever proposed it: 0 if it is, 10 if not. Refuses a description with 1 to 5, then a table that is none
+// of as many boards with 6. The table is only read.
+pub fn check(words: &[u16], table: &[u8]) -> Answer
+    ensures { λ a. ⌜ outcome a (now (table .entry)) ≡ check (now (words .entry)) (now (table .entry)) ⌝ }
+{
+    let h = match sheet::description(words) {
+        HeaderFound::Good(h) => h,
+        HeaderFound::Refused(r) => {
+            return Answer {
+                number: r.number,
+                count: 0,
+            };
+        }
+    };
+    let n = h.boards * h.boards;
+    if table.len() != n {
+        return Answer {
+            number: tables::NO_TABLE,
+            count: 0,
+        };
+    }
+    let mut cells = tables::room();
+    check_by_copy(h, words, table, &mut cells[..n])
+}

@@ -1,0 +1,243 @@
+-- The three demands, sentence by sentence. Each theorem speaks of whatever the calls may answer and leave by their promises, and of nothing else.
+-- Assumes nothing.
+use mathlib.Core.Path.{_≡_, refl, sym, ap, _∙_, subst}
+use mathlib.Core.Bool.{Bool, true, false}
+use mathlib.Core.Logic.{_⊎_, inl, inr, ⊎-elim, _↔_}
+use mathlib.Core.List.{List}
+use Prim.Native.Nat.{ℕ, _+_, _*_, _≤_, _<_}
+use native.Mathlib.Omega.{arith}
+use lib.ListN.{length}
+use lib.Dec.{T, not-T}
+use Rattle.rules.specs.Descriptions.{mostBoards, Sheet, good, refused, read}
+use Rattle.rules.specs.Tables.{Table, Inside, emptied, total}
+use Rattle.rules.specs.Arrangements.{Arrangement}
+use Rattle.rules.specs.Closed.{Largest}
+use Rattle.rules.specs.Closing.{closing}
+use Rattle.rules.specs.Search.{Order, none, tries, Least, Nowhere}
+use Rattle.rules.specs.Stages.{Stages}
+use Rattle.rules.proofs.Tests.{true-T}
+use Rattle.rules.proofs.Descriptions.{read-wellFormed}
+use Rattle.rules.proofs.Inside.{emptied-inside}
+use Rattle.rules.proofs.Largest.{closing-largest, largest-unique}
+use Rattle.rules.proofs.Arrangements.{arrangement-kept, arrangement-whole}
+use Rattle.rules.proofs.Search.{search-found, search-none}
+use Rattle.rules.proofs.Stages.{stages-clash, stages-table}
+use Rattle.rules.proofs.Calls.{strikes-counted, strikes-most}
+use Rattle.answers.specs.declared.Answer.{Answer}
+use Rattle.answers.specs.Answers.{numbered}
+use Rattle.answers.proofs.Outcomes.{outcome-determined}
+use Rattle.sheet.proofs.read.Statement as read
+use Rattle.sheet.proofs.read.Met as read-met
+use Rattle.tables.proofs.fresh.Statement as fresh
+use Rattle.tables.proofs.fresh.Met as fresh-met
+use Rattle.tables.proofs.Freshness.{fresh-no-boards, fresh-no-cells}
+use Rattle.closing.specs.Runs.{Stage, sheets, Closing, contradictory, Called}
+use Rattle.closing.proofs.close.Statement as close
+use Rattle.closing.proofs.close.Met as close-met
+use Rattle.search.specs.Runs.{Searching}
+use Rattle.search.proofs.search.Statement as search
+use Rattle.search.proofs.search.Met as search-met
+use Rattle.checking.specs.Runs.{Checking}
+use Rattle.checking.proofs.check.Statement as check
+use Rattle.checking.proofs.check.Met as check-met
+use Rattle.demands.specs.Entries.{Call, searches, checks, Reads, Freshens, Refuses, Arranges}
+use Rattle.demands.proofs.Refusing.{refuses, reading-refused, reading-good, call-gives, gives-description, gives-table, gives-leaves, gives-good}
+use Rattle.demands.proofs.Finding.{stated, Found, Nothing, Spent, search-ends, budget-more, check-ends}
+use Rattle.demands.proofs.Ending.{Ends, ends, done, run, same-boards}
+
+-- ==== Demand 1
+
+-- Every entry point takes whatever it is lent, ends, and does nothing undefined: its code meets its contract, which asks nothing of the caller.
+pub every-entry-point : {M : Type 1} → read.statement M × fresh.statement M × close.statement M × search.statement M × check.statement M
+every-entry-point = (read-met.met, fresh-met.met, close-met.met, search-met.met, check-met.met)
+
+module _ (ws t : List ℕ) (a : Answer) (w : List ℕ) (call : Call ws t a w) where
+  -- Malformed descriptions and tables are refused by number, the caller having checked nothing;
+  pub malformed-description-refused : (n : ℕ) → read ws ≡ refused n → Refuses n t a w
+  malformed-description-refused n e = gives-description ws t a w (call-gives ws t a w call) n e
+
+  pub malformed-table-refused : (s : Sheet) → read ws ≡ good s → (Table (s .boards) t → ⊥) → Refuses 6 t a w
+  malformed-table-refused s e f = gives-table ws t a w (call-gives ws t a w call) s e f
+
+  -- a refusal leaves the lent table as it came.
+  pub refusal-leaves-table : (a .number ≡ 0 → ⊥) → w ≡ t
+  refusal-leaves-table f = gives-leaves ws t a w (call-gives ws t a w call) f
+
+-- The reader, which is lent no table, refuses by the same numbers, and takes every other description.
+pub malformed-description-told : (ws : List ℕ) (a : Answer) → Reads ws a → (n : ℕ) → read ws ≡ refused n → a ≡ numbered n
+malformed-description-told ws a call n e = call ∙ ap numbered (reading-refused ws n e)
+
+pub good-description-told : (ws : List ℕ) (a : Answer) → Reads ws a → (s : Sheet) → read ws ≡ good s → a ≡ numbered 0
+good-description-told ws a call s e = call ∙ ap numbered (reading-good ws s e)
+
+-- The fresh table refuses a number of boards out of range with 1, then a wrong number of cells with 6, and leaves the table as it came.
+pub fresh-boards-refused : (v : ℕ) (t : List ℕ) (a : Answer) (w : List ℕ) → Freshens v t a w → (1 ≤ v → v ≤ mostBoards → ⊥) → Refuses 1 t a w
+fresh-boards-refused v t a w call f = refuses t a w (call ∙ sym (fresh-no-boards v t f))
+
+pub fresh-cells-refused : (v : ℕ) (t : List ℕ) (a : Answer) (w : List ℕ) → Freshens v t a w → 1 ≤ v → v ≤ mostBoards → (length t ≡ v * v → ⊥) → Refuses 6 t a w
+fresh-cells-refused v t a w call l m f = refuses t a w (call ∙ sym (fresh-no-cells v t l m f))
+
+-- ==== Demand 2
+
+-- For a good description, a well-formed table, any order of relations and any budget:
+module _ {ord : List ℕ} (order : Order ord) (ws : List ℕ) (s : Sheet) (means : read ws ≡ good s) (t : List ℕ) (table : Table (s .boards) t) (b : ℕ)
+    (a : Answer) (w : List ℕ) (call : Searching ord ws t b a w)
+  where
+    ways : Found (stated ord s t) b a w ⊎ (Nothing (stated ord s t) b t a w ⊎ Spent (stated ord s t) b t a w)
+    ways = search-ends ord ws s means t table b a w call
+
+    first : a .number ≡ 0 → Least s ord t w
+    first z =
+        ⊎-elim (λ f. search-found (read-wellFormed ws s means) (closing-largest s) order t table (a .count) w (f .end))
+        (⊎-elim (λ f. let e : a .number ≡ 8 = f .number in let y : ⊥ = omega arith in absurd y) (λ f. let e : a .number ≡ 9 = f .number in let y : ⊥ = omega arith in absurd y))
+        ways
+
+    -- The search agrees with the published tree constraints with set operators: what it finds is an arrangement, inside the lent table.
+    pub found-is-arrangement : a .number ≡ 0 → Arrangement s w × Inside w t
+    found-is-arrangement z = let l = first z in (l .arrangement, l .inside)
+
+    -- It says the budget ran out exactly when the stated search needs more tries than allowed;
+    pub ran-out-exactly : (a .number ≡ 9) ↔ (b < tries (stated ord s t))
+    ran-out-exactly =
+        ⊎-elim
+        (λ f. (
+          λ e. let z : a .number ≡ 0 = f .number in let y : ⊥ = omega arith in absurd y,
+          λ m. let l : tries (stated ord s t) ≤ b = f .enough in let y : ⊥ = omega arith in absurd y,
+        ))
+        (⊎-elim
+        (λ f. (
+          λ e. let z : a .number ≡ 8 = f .number in let y : ⊥ = omega arith in absurd y,
+          λ m. let l : tries (stated ord s t) ≤ b = f .enough in let y : ⊥ = omega arith in absurd y,
+        ))
+        (λ f. (λ e. f .more, λ m. f .number))) ways
+
+    -- otherwise it gives the first arrangement inside the lent table, in the stated order,
+    pub found-is-first : a .number ≡ 0 → Least s ord t w
+    found-is-first z = first z
+
+    pub first-is-found : tries (stated ord s t) ≤ b → (x : List ℕ) → Arrangement s x → Inside x t → a .number ≡ 0
+    first-is-found l x r i =
+        ⊎-elim (λ f. f .number)
+        (⊎-elim
+        (λ f. absurd (search-none (read-wellFormed ws s means) (closing-largest s) order t table (a .count) (f .end) x r i))
+        (λ f. let m : b < tries (stated ord s t) = f .more in let y : ⊥ = omega arith in absurd y)) ways
+
+    -- or "none" exactly when there is none.
+    pub none-exactly : tries (stated ord s t) ≤ b → (a .number ≡ 8) ↔ Nowhere s t
+    none-exactly l =
+        ⊎-elim
+        (λ f. (
+          λ e. let z : a .number ≡ 0 = f .number in let y : ⊥ = omega arith in absurd y,
+          λ n. let g = found-is-first (f .number) in absurd (n w (g .arrangement) (g .inside)),
+        ))
+        (⊎-elim
+        (λ f. (λ e. search-none (read-wellFormed ws s means) (closing-largest s) order t table (a .count) (f .end), λ n. f .number))
+        (λ f. let m : b < tries (stated ord s t) = f .more in let y : ⊥ = omega arith in absurd y)) ways
+
+    -- The answer carries the tries that the stated search makes, or the budget where that ran out.
+    pub answer-carries-tries : (a .number ≡ 9 → ⊥) → a .count ≡ tries (stated ord s t)
+    answer-carries-tries n =
+        ⊎-elim (λ f. sym (ap tries (f .end))) (⊎-elim (λ f. sym (ap tries (f .end))) (λ f. absurd (n (f .number)))) ways
+
+    pub answer-carries-budget : a .number ≡ 9 → a .count ≡ b
+    answer-carries-budget e =
+        ⊎-elim (λ f. let z : a .number ≡ 0 = f .number in let y : ⊥ = omega arith in absurd y)
+        (⊎-elim (λ f. let z : a .number ≡ 8 = f .number in let y : ⊥ = omega arith in absurd y) (λ f. f .count)) ways
+
+-- A larger budget changes no answer other than 9, whatever is lent.
+pub larger-budget-same : (ord ws t : List ℕ) (b c : ℕ) → b ≤ c → (a d : Answer) (u w : List ℕ) → Searching ord ws t b a u → Searching ord ws t c d w
+    → (a .number ≡ 9 → ⊥) → (a ≡ d) × (u ≡ w)
+larger-budget-same ord ws t b c l a d u w p q n = outcome-determined a d u w (p ∙ budget-more ord ws t b c l a u p n ∙ sym q)
+
+-- The check accepts exactly the arrangements, whatever is lent.
+pub check-accepts-exactly : (ws t : List ℕ) (a : Answer) → Checking ws t a → (a .number ≡ 0) ↔ Arranges ws t
+check-accepts-exactly ws t a call = (accepts, accepted)
+  where
+    accepts : a .number ≡ 0 → Arranges ws t
+    accepts z =
+        let g = gives-good ws t a t (call-gives ws t a t (checks call refl)) z in
+        ⊎-elim (λ d. (g .0, g .1, d .1)) (λ d. let e : a .number ≡ 10 = d .0 in let y : ⊥ = omega arith in absurd y) (check-ends ws (g .0) (g .1) t (g .2) a call)
+
+    accepted : Arranges ws t → a .number ≡ 0
+    accepted r = ⊎-elim (λ d. d .0) (λ d. absurd (d .1 (r .2))) (check-ends ws (r .0) (r .1) t (r .2 .table) a call)
+
+-- What the search finds, the check accepts.
+pub found-is-accepted : {ord : List ℕ} → Order ord → (ws t : List ℕ) (b : ℕ) (a : Answer) (w : List ℕ) → Searching ord ws t b a w → a .number ≡ 0
+    → (c : Answer) → Checking ws w c → c .number ≡ 0
+found-is-accepted {ord} order ws t b a w call z c checked =
+    let g = gives-good ws t a w (call-gives ws t a w (searches ord b call)) z in
+    check-accepts-exactly ws w c checked .1 (g .0, g .1, found-is-arrangement order ws (g .0) (g .1) t (g .2) b a w call z .0)
+
+-- ==== Demand 3
+
+-- For a good description and a well-formed table:
+module _ (ws : List ℕ) (s : Sheet) (means : read ws ≡ good s) (t : List ℕ) (table : Table (s .boards) t) (a : Answer) (w : List ℕ) (call : Closing ws t a w) where
+  ending : (b : Bool) × Ends s t a w b
+  ending = ends ws s means t table a w call
+
+  -- Closing a well-formed table under a well-formed description answers 0 or 7, and nothing else.
+  pub closing-answers : (a .number ≡ 0) ⊎ (a .number ≡ 7)
+  closing-answers = go (ending .0) (ending .1 .number)
+    where
+      go : (b : Bool) → a .number ≡ elim b [ true ↦ 7 | false ↦ 0 ] → (a .number ≡ 0) ⊎ (a .number ≡ 7)
+      go true e = inr e
+      go false e = inl e
+
+  module _ (closed : a .number ≡ 0) where
+    -- It gives the largest table inside it that obeys every rule,
+    pub closing-largest-table : Largest s t w
+    closing-largest-table = subst (Largest s t) (sym (done ws s means t table a w call closed .1)) (closing-largest s t table)
+
+    -- and reports how many relations it struck,
+    pub closing-counted : a .count + total w ≡ total t
+    closing-counted =
+        let d = done ws s means t table a w call closed in rw (d .2, d .1) (strikes-counted (closing-largest s t table .inside))
+
+    -- from 0 to 768.
+    pub closing-count-most : a .count ≤ 768
+    closing-count-most =
+        let d = done ws s means t table a w call closed in
+        rw (d .2)
+        (strikes-most (read-wellFormed ws s means .boards .1) table (closing-largest s t table .table) (not-T (emptied (closing s t)) (λ e. subst T (d .0) e)))
+
+  -- It loses no arrangement.
+  pub closing-loses-none : (x : List ℕ) → Arrangement s x → Inside x t → (a .number ≡ 0) × Inside x w
+  closing-loses-none x r i = go (ending .0) (ending .1)
+    where
+      kept : Inside x (closing s t)
+      kept = arrangement-kept (read-wellFormed ws s means) (closing-largest s t table) r i
+
+      go : (b : Bool) → Ends s t a w b → (a .number ≡ 0) × Inside x w
+      go true e = absurd (arrangement-whole r (emptied-inside (r .table) kept (true-T (e .empty))))
+      go false e = (e .number, subst (Inside x) (sym (e .leaves)) kept)
+
+  -- It is contradictory exactly when that largest table has an empty cell.
+  pub closing-contradictory : (u : List ℕ) → Largest s t u → (a .number ≡ 7) ↔ T (emptied u)
+  closing-contradictory u l = go (ending .0) (ending .1)
+    where
+      same : closing s t ≡ u
+      same = largest-unique (closing-largest s t table) l
+
+      go : (b : Bool) → Ends s t a w b → (a .number ≡ 7) ↔ T (emptied u)
+      go true e = (λ n. subst (λ (v : List ℕ). T (emptied v)) same (true-T (e .empty)), λ t. e .number)
+      go false e = (
+        λ n. let z : _≡_ {A = ℕ} 0 7 = sym (e .number) ∙ n in let y : ⊥ = omega arith in absurd y,
+        λ t. absurd (subst T (sym (ap emptied same) ∙ e .empty) t),
+      )
+
+-- One call under all the lines, and any run of calls under some of them, in any order, the last under all:
+module _ (one : Stage) (gs : List Stage) (stages : Stages (one .sheet) (sheets gs)) (t : List ℕ) (table : Table (one .sheet .boards) t)
+    (a : Answer) (u : List ℕ) (single : Closing (one .words) t a u) (w : List ℕ) (c : Bool) (called : Called gs t w c)
+  where
+    -- Closing in stages, in any order of lines, gives the same table as closing once, unless that is contradictory;
+    pub stages-same-table : a .number ≡ 0 → w ≡ u
+    stages-same-table n =
+        let d = done (one .words) (one .sheet) (one .means) t table a u single n in
+        stages-table (sheets gs) stages t w c (closing-largest (one .sheet) t table) (run gs (same-boards (one .sheet) gs stages) t w c table called) (d .0) ∙ sym (d .1)
+
+    -- some stage is contradictory exactly when the single closing is.
+    pub stages-contradictory : c ≡ contradictory a
+    stages-contradictory =
+        let e = ends (one .words) (one .sheet) (one .means) t table a u single .1 in
+        sym (stages-clash (sheets gs) stages t w c (closing-largest (one .sheet) t table) (run gs (same-boards (one .sheet) gs stages) t w c table called))
+        ∙ e .empty ∙ sym (e .says)

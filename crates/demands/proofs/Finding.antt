@@ -1,0 +1,97 @@
+-- How a search ends under a good description, by its promise: with the first arrangement, with none, or out of budget; and how a check does.
+-- Assumes nothing.
+use mathlib.Core.Path.{_≡_, refl, sym, ap, ap₂, _∙_, subst}
+use mathlib.Core.Logic.{_⊎_, inl, inr, ⊎-elim}
+use mathlib.Core.Bool.{Bool, true, false}
+use mathlib.Core.List.{List}
+use Prim.Native.Nat.{ℕ, _≤_, _<_}
+use lib.Dec.{T, T-not}
+use Rattle.rules.specs.Descriptions.{Sheet, Reading, good, refused, read}
+use Rattle.rules.specs.Tables.{Table}
+use Rattle.rules.specs.Arrangements.{Arrangement}
+use Rattle.rules.specs.Closing.{closing}
+use Rattle.rules.specs.Search.{End, found, none, tries, search, ended, ranOut, cap}
+use Rattle.rules.specs.Calls.{wellFormed, answer, searching, arranged}
+use Rattle.rules.proofs.Tests.{true-T, T-decide}
+use Rattle.rules.proofs.Descriptions.{read-wellFormed}
+use Rattle.rules.proofs.Calls.{table-wellFormed, wellFormed-table, arrangement-arranged, arranged-arrangement}
+use Rattle.rules.proofs.Search.{cap-case, cap-more}
+use Rattle.answers.specs.declared.Answer.{Answer}
+use Rattle.answers.specs.Answers.{outcome}
+use Rattle.answers.proofs.Outcomes.{says, counts, leaves}
+use Rattle.search.specs.Runs.{Searching}
+use Rattle.search.proofs.Searching.{search-refused, search-no-table, search-good}
+use Rattle.checking.specs.Runs.{Checking}
+use Rattle.checking.proofs.Checking.{by-test, check-good}
+
+-- the search that 01 states
+abbrev pub stated : List ℕ → Sheet → List ℕ → End
+stated ord s t = search (closing s) ord (s .boards) t
+
+-- it ended within the budget with an arrangement; with none; or it did not end within it
+pub record Found (e : End) (b : ℕ) (a : Answer) (w : List ℕ) : Type 0 where
+  pub end : e ≡ found (a .count) w
+  pub enough : tries e ≤ b
+  pub number : a .number ≡ 0
+
+pub record Nothing (e : End) (b : ℕ) (t : List ℕ) (a : Answer) (w : List ℕ) : Type 0 where
+  pub end : e ≡ none (a .count)
+  pub enough : tries e ≤ b
+  pub number : a .number ≡ 8
+  pub table : w ≡ t
+
+pub record Spent (e : End) (b : ℕ) (t : List ℕ) (a : Answer) (w : List ℕ) : Type 0 where
+  pub more : b < tries e
+  pub number : a .number ≡ 9
+  pub count : a .count ≡ b
+  pub table : w ≡ t
+
+pub search-ends : (ord ws : List ℕ) (s : Sheet) → read ws ≡ good s → (t : List ℕ) → Table (s .boards) t → (b : ℕ) (a : Answer) (w : List ℕ)
+    → Searching ord ws t b a w → Found (stated ord s t) b a w ⊎ (Nothing (stated ord s t) b t a w ⊎ Spent (stated ord s t) b t a w)
+search-ends ord ws s means t table b a w call =
+    ⊎-elim (λ d. enough (stated ord s t) refl (d .0) (d .1)) (λ d. inr (inr (spent (d .0) (d .1)))) (cap-case b (stated ord s t))
+  where
+    is : outcome a w ≡ answer t (cap b (stated ord s t))
+    is = call ∙ search-good ord ws t b s means table
+
+    spent : b < tries (stated ord s t) → cap b (stated ord s t) ≡ ranOut b → Spent (stated ord s t) b t a w
+    spent h c = let o = is ∙ ap (answer t) c in record { more = h; number = says o; count = counts o; table = leaves o }
+
+    enough : (e : End) → stated ord s t ≡ e → tries (stated ord s t) ≤ b → cap b (stated ord s t) ≡ ended (stated ord s t)
+        → Found (stated ord s t) b a w ⊎ (Nothing (stated ord s t) b t a w ⊎ Spent (stated ord s t) b t a w)
+    enough (found n x) e h c =
+        let o = is ∙ ap (answer t) c ∙ ap (λ (y : End). answer t (ended y)) e in
+        inl (record { end = e ∙ sym (ap₂ found (counts o) (leaves o)); enough = h; number = says o })
+    enough (none n) e h c =
+        let o = is ∙ ap (answer t) c ∙ ap (λ (y : End). answer t (ended y)) e in
+        inr (inl (record { end = e ∙ sym (ap none (counts o)); enough = h; number = says o; table = leaves o }))
+
+-- a larger budget comes to the same, unless the smaller one ran out
+pub budget-more : (ord ws t : List ℕ) (b c : ℕ) → b ≤ c → (a : Answer) (u : List ℕ) → Searching ord ws t b a u → (a .number ≡ 9 → ⊥)
+    → searching ord ws t b ≡ searching ord ws t c
+budget-more ord ws t b c l a u call n = by-reading (read ws) refl
+  where
+    enough : (s : Sheet) → outcome a u ≡ answer t (cap b (stated ord s t)) → cap b (stated ord s t) ≡ cap c (stated ord s t)
+    enough s is =
+        ⊎-elim (λ d. d .1 ∙ sym (cap-more b c (stated ord s t) (stated ord s t) l (d .1))) (λ d. absurd (n (says (is ∙ ap (answer t) (d .1)))))
+        (cap-case b (stated ord s t))
+
+    by-reading : (r : Reading Sheet) → read ws ≡ r → searching ord ws t b ≡ searching ord ws t c
+    by-reading (good s) e =
+        ⊎-elim
+        (λ h. let k = wellFormed-table (s .boards) t h in
+        let p = search-good ord ws t b s e k in
+        p ∙ ap (answer t) (enough s (call ∙ p)) ∙ sym (search-good ord ws t c s e k))
+        (λ h. let k : (Table (s .boards) t → ⊥) = λ g. T-not (wellFormed (s .boards) t) h (table-wellFormed (s .boards) t g) in
+        sym (search-no-table ord ws t b s e k) ∙ search-no-table ord ws t c s e k)
+        (T-decide (wellFormed (s .boards) t))
+    by-reading (refused m) e = sym (search-refused ord ws t b m e) ∙ search-refused ord ws t c m e
+
+-- a check answers by whether the table is an arrangement
+pub check-ends : (ws : List ℕ) (s : Sheet) → read ws ≡ good s → (t : List ℕ) → Table (s .boards) t → (a : Answer) → Checking ws t a
+    → ((a .number ≡ 0) × Arrangement s t) ⊎ ((a .number ≡ 10) × (Arrangement s t → ⊥))
+check-ends ws s means t table a call = by (arranged s t) refl (call ∙ check-good ws t s means table)
+  where
+    by : (b : Bool) → arranged s t ≡ b → outcome a t ≡ by-test ws t b → ((a .number ≡ 0) × Arrangement s t) ⊎ ((a .number ≡ 10) × (Arrangement s t → ⊥))
+    by true e o = inl (says o, arranged-arrangement (read-wellFormed ws s means) table (true-T e))
+    by false e o = inr (says o, λ r. subst T e (arrangement-arranged (read-wellFormed ws s means) r))

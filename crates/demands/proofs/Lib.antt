@@ -1,0 +1,6 @@
+-- The three demands, the laws behind them, and calls that only look like calls.
+pub mod Refusing
+pub mod Finding
+pub mod Ending
+pub mod Demands
+pub mod Refuted

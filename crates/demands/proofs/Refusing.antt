@@ -1,0 +1,99 @@
+-- What every call that is lent a description and a table has in common: it gives 1 to 5, then 6, and a refusal leaves the table. Assumes nothing.
+use mathlib.Core.Path.{_≡_, refl, ap, _∙_}
+use mathlib.Core.Bool.{Bool, true, false}
+use mathlib.Core.Logic.{⊎-elim}
+use mathlib.Core.List.{List}
+use Prim.Native.Nat.{ℕ}
+use native.Mathlib.Omega.{arith}
+use lib.Dec.{T-not}
+use Rattle.rules.specs.Descriptions.{Sheet, Reading, good, refused, read}
+use Rattle.rules.specs.Tables.{Table, emptied}
+use Rattle.rules.specs.Closed.{strikes}
+use Rattle.rules.specs.Closing.{closing}
+use Rattle.rules.specs.Search.{found, none, Capped, ended, ranOut, search, cap}
+use Rattle.rules.specs.Calls.{Outcome, refuse, succeed, wellFormed, given, reading, close, answer, searching, arranged, check}
+use Rattle.rules.proofs.Descriptions.{read-numbered}
+use Rattle.rules.proofs.Tests.{T-decide}
+use Rattle.rules.proofs.Calls.{table-wellFormed, wellFormed-table, given-refused, given-no-table, given-good}
+use Rattle.answers.specs.declared.Answer.{Answer}
+use Rattle.answers.specs.Answers.{outcome}
+use Rattle.answers.proofs.Outcomes.{says, counts, leaves}
+use Rattle.demands.specs.Entries.{Call, closes, searches, checks, Refuses}
+
+-- reading, by what the words mean
+pub reading-refused : (ws : List ℕ) (n : ℕ) → read ws ≡ refused n → reading ws ≡ n
+unfolding reading
+reading-refused ws n e = ap (λ (r : Reading Sheet). elim r [ good s ↦ 0 | refused m ↦ m ]) e
+
+pub reading-good : (ws : List ℕ) (s : Sheet) → read ws ≡ good s → reading ws ≡ 0
+unfolding reading
+reading-good ws s e = ap (λ (r : Reading Sheet). elim r [ good s ↦ 0 | refused m ↦ m ]) e
+
+pub refuses : (t : List ℕ) (a : Answer) (w : List ℕ) {n : ℕ} → outcome a w ≡ refuse n 0 t → Refuses n t a w
+refuses t a w e = record { number = says e; count = counts e; table = leaves e }
+
+-- what it answers and leaves once description and table are good: a refusal leaves the table
+abbrev Leaves : List ℕ → Outcome → Type 0
+Leaves t o = (o .number ≡ 0 → ⊥) → o .table ≡ t
+
+-- the call gives 1 to 5, then 6, then what f says
+pub record Gives (ws t : List ℕ) (a : Answer) (w : List ℕ) : Type 0 where
+  pub f : Sheet → Outcome
+  pub leaves : (s : Sheet) → Leaves t (f s)
+  pub is : outcome a w ≡ given ws t f
+
+module _ (ws t : List ℕ) where
+  closing-leaves : (s : Sheet) (b : Bool) → Leaves t (elim b [ true ↦ refuse 7 0 t | false ↦ succeed (strikes t (closing s t)) (closing s t) ])
+  closing-leaves s true f = refl
+  closing-leaves s false f = absurd (f refl)
+
+  search-leaves : (c : Capped) → Leaves t (answer t c)
+  search-leaves (ended (found n w)) f = absurd (f refl)
+  search-leaves (ended (none n)) f = refl
+  search-leaves (ranOut b) f = refl
+
+  check-leaves : (b : Bool) → Leaves t (elim b [ true ↦ succeed 0 t | false ↦ refuse 10 0 t ])
+  check-leaves true f = refl
+  check-leaves false f = refl
+
+  module _ (a : Answer) (w : List ℕ) where
+    pub call-gives : Call ws t a w → Gives ws t a w
+    unfolding close searching check
+    call-gives (closes c) = record { f = _; leaves = λ s. closing-leaves s (emptied (closing s t)); is = c }
+    call-gives (searches ord b c) = record { f = _; leaves = λ s. search-leaves (cap b (search (closing s) ord (s .boards) t)); is = c }
+    call-gives (checks c e) = record { f = _; leaves = λ s. check-leaves (arranged s t); is = ap (λ (x : List ℕ). outcome a x) e ∙ c }
+
+    module _ (g : Gives ws t a w) where
+      pub gives-description : (n : ℕ) → read ws ≡ refused n → Refuses n t a w
+      gives-description n e = refuses t a w (g .is ∙ given-refused ws t (g .f) n e)
+
+      pub gives-table : (s : Sheet) → read ws ≡ good s → (Table (s .boards) t → ⊥) → Refuses 6 t a w
+      gives-table s e n = refuses t a w (g .is ∙ given-no-table ws t (g .f) s e n)
+
+      pub gives-leaves : (a .number ≡ 0 → ⊥) → w ≡ t
+      gives-leaves n = by (read ws) refl
+        where
+          by : (r : Reading Sheet) → read ws ≡ r → w ≡ t
+          by (good s) e =
+              ⊎-elim
+              (λ h. let is = g .is ∙ given-good ws t (g .f) s e (wellFormed-table (s .boards) t h) in leaves is ∙ g .leaves s (λ z. n (says is ∙ z)))
+              (λ h. gives-table s e (λ k. T-not (wellFormed (s .boards) t) h (table-wellFormed (s .boards) t k)) .table)
+              (T-decide (wellFormed (s .boards) t))
+          by (refused k) e = gives-description k e .table
+
+      -- success shows that both were good
+      pub gives-good : a .number ≡ 0 → (s : Sheet) × (read ws ≡ good s) × Table (s .boards) t
+      gives-good z = by (read ws) refl
+        where
+          by : (r : Reading Sheet) → read ws ≡ r → (s : Sheet) × (read ws ≡ good s) × Table (s .boards) t
+          by (good s) e =
+              ⊎-elim (λ h. (s, e, wellFormed-table (s .boards) t h))
+              (λ h. six (gives-table s e (λ k. T-not (wellFormed (s .boards) t) h (table-wellFormed (s .boards) t k)) .number))
+              (T-decide (wellFormed (s .boards) t))
+            where
+              six : a .number ≡ 6 → (s : Sheet) × (read ws ≡ good s) × Table (s .boards) t
+              six e = let y : ⊥ = omega (arith, z) in absurd y
+          by (refused k) e =
+              let n : a .number ≡ k = gives-description k e .number in
+              let l = read-numbered ws k e in
+              let y : ⊥ = omega (arith, z, l) in absurd y

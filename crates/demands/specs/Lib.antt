@@ -1,0 +1,2 @@
+-- What the demands speak of.
+pub mod Entries

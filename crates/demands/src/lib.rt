@@ -1,0 +1,1 @@
+// The three demands, sentence by sentence: laws alone, about what the calls promise.

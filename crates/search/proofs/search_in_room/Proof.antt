@@ -1,0 +1,187 @@
+-- `search_in_room` meets its contract: each of its ends is one of the laws of a search. Assumes nothing.
+use mathlib.Core.Path.{_≡_, sym, ap, _∙_, subst}
+use Rattle.rules.specs.Calls.{succeed, searching}
+use Rattle.passes.specs.Passes.{Ready}
+use Rattle.sheet.proofs.Described.{described}
+use Rattle.tables.proofs.Copying.{copied-none, copied-ready}
+use Rattle.search.specs.declared.Ended.{Ended}
+use Rattle.search.proofs.Searching.{search-no-table, first-whole, left, search-emptied, search-struck}
+use borrow.Author.Needs.{needs}
+use Rattle.search.proofs.search_in_room.Statement.{statement}
+use Rattle.search.proofs.search_in_room.Tie as tie
+
+copied-requires : tie.Need-copied-requires
+copied-requires c κs = search needs
+
+same-length : tie.Need-same-length
+same-length c = search needs
+
+same-length-2 : tie.Need-same-length-2
+same-length-2 c = search needs
+
+returns : tie.Need-returns
+returns c =
+    let start = c .before .before .before .before .before .before .before .before .before .before .before .before in
+    let d = described (start .args .words .now) (start .args .h) (start .pre .header) in
+    search-no-table (start .args .order .now) (start .args .words .now) (start .args .table .now) (start .args .budget) (d .0) (d .1 .means)
+    (copied-none (c .before .before .before .copied .ensures) (c .if1 .taken) (d .0 .boards))
+
+-- the copied table is one of as many boards
+abbrev before-copy : tie.Else1 → tie.Start
+before-copy c = c .before .before .before .before .before .before .before .before .before .before .before .before
+
+table-ready : (c : tie.Else1) → Ready (before-copy c .args .h .boards) (before-copy c .args .table .now)
+table-ready c = copied-ready (c .before .before .before .copied .ensures) (c .if1 .left) (before-copy c .pre .boards) (before-copy c .pre .table)
+
+settle-requires : tie.Need-settle-requires
+settle-requires c κs =
+    let start = c .before .before .before .before .before .before .before .before .before .before .before .before .before in
+    (start .pre .header, subst (Ready (start .args .h .boards)) (sym (c .before .before .before .before .copied .ensures .copy)) (table-ready (c .before)))
+
+enum-told : tie.Need-enum-told
+enum-told c = search needs
+
+enum-told-2 : tie.Need-enum-told-2
+enum-told-2 c = search needs
+
+same-length-3 : tie.Need-same-length-3
+same-length-3 c = search needs
+
+same-length-4 : tie.Need-same-length-4
+same-length-4 c = search needs
+
+returns-2 : tie.Need-returns-2
+returns-2 c =
+    let start = c .before .before .before .before .before .before .before .before .before .before .before .before .before .before .before .before .before .before in
+    let d = described (start .args .words .now) (start .args .h) (start .pre .header) in
+    let copy = c .before .before .before .before .before .before .before .before .before .copied .ensures .copy in
+    let closed = c .before .before .before .before .settle .ensures (d .0) (d .1 .means) in
+    search-emptied (start .args .order .now) (start .args .words .now) (start .args .table .now) (start .args .budget) (d .1 .means) (d .1 .boards) (table-ready (c .before .before .before .before .before .before)) copy _ _ closed
+    (c .enum-told2 .given .1)
+
+copy-requires : tie.Need-copy-requires
+copy-requires c κs = search needs
+
+hunt-requires : tie.Need-hunt-requires
+hunt-requires c κs =
+    let start = c .before .before .before .before .before .before .before .before .before .before .before .before .before .before .before .before .before .before .before .before .before .before .before .before .before .before in
+    record {
+      header = start .pre .header;
+      order = start .pre .order;
+      bytes = start .pre .bytes;
+      whole = λ s e. first-whole s _ _ (c .before .before .before .before .before .before .before .before .enum-told .given .1) (c .before .before .before .before .before .before .before .before .before .before .before .before .settle .ensures s e);
+      cells = c .before .before .before .before .before .copy .ensures;
+    }
+
+enum-known-tries : tie.Need-enum-known-tries
+enum-known-tries c = search needs
+
+-- how the call ends, by how the tries end
+abbrev before-hunt : tie.After-hunt → tie.Start
+before-hunt c = c .before .before .before .before .before .before .before .before .before .before .before .before .before .before .before .before .before .before .before .before .before .before .before .before .before .before .before
+
+hunted : (c : tie.After-hunt) (e : Ended) → c .hunt .result ≡ e
+    → left (before-hunt c .args .table .now) (before-hunt c .args .budget) (c .hunt .last .1 .1 .1 .1 .1 .1 .0) e
+    ≡ searching (before-hunt c .args .order .now) (before-hunt c .args .words .now) (before-hunt c .args .table .now) (before-hunt c .args .budget)
+hunted c e f =
+    let start = before-hunt c in
+    let d = described (start .args .words .now) (start .args .h) (start .pre .header) in
+    let copy = c .before .before .before .before .before .before .before .before .before .before .before .before .before .before .before .before .before .before .copied .ensures .copy in
+    let closed = c .before .before .before .before .before .before .before .before .before .before .before .before .before .settle .ensures (d .0) (d .1 .means) in
+    search-struck (start .args .order .now) (start .args .words .now) (start .args .table .now) (start .args .budget) (d .1 .means) (d .1 .boards) (table-ready (c .before .before .before .before .before .before .before .before .before .before .before .before .before .before .before)) copy _ _ closed
+    (c .before .before .before .before .before .before .before .before .before .enum-told .given .1) _ _ e (c .hunt .ensures (d .0) (d .1 .means)) f
+
+copy-requires-2 : tie.Need-copy-requires-2
+copy-requires-2 c κs =
+    let start = c .before .before .before .before .before .before .before .before .before .before .before .before .before .before .before .before .before .before .before .before .before .before .before .before .before .before .before .before .before .before .before .before .before .before .before .before in
+    let kept = c .before .before .before .before .before .before .before .before .before .hunt .kept .1 .1 .1 .1 .1 .1 .0 ∙ c .before .before .before .before .before .before .before .before .before .before .before .before .before .before .before .copy .kept .1 .0 in
+    start .pre .table ∙ sym (kept ∙ start .pre .cells)
+
+enum-known-tries-2 : tie.Need-enum-known-tries-2
+enum-known-tries-2 c = search needs
+
+enum-told-3 : tie.Need-enum-told-3
+enum-told-3 c = search needs
+
+same-length-5 : tie.Need-same-length-5
+same-length-5 c = search needs
+
+same-length-6 : tie.Need-same-length-6
+same-length-6 c = search needs
+
+same-length-7 : tie.Need-same-length-7
+same-length-7 c = search needs
+
+same-length-8 : tie.Need-same-length-8
+same-length-8 c = search needs
+
+returns-3 : tie.Need-returns-3
+returns-3 c =
+    ap (succeed (c .before .before .before .before .before .before .tries .given .0 .0)) (c .before .before .copy2 .ensures)
+    ∙ hunted (c .before .before .before .before .before .before .before .before .before .before .before .before) _ (c .before .before .before .before .before .before .tries .given .1)
+
+same-length-9 : tie.Need-same-length-9
+same-length-9 c = search needs
+
+same-length-10 : tie.Need-same-length-10
+same-length-10 c = search needs
+
+same-length-11 : tie.Need-same-length-11
+same-length-11 c = search needs
+
+same-length-12 : tie.Need-same-length-12
+same-length-12 c = search needs
+
+returns-4 : tie.Need-returns-4
+returns-4 c = hunted (c .before .before .before .before .before .before .before) _ (c .before .tries2 .given .1)
+
+same-length-13 : tie.Need-same-length-13
+same-length-13 c = search needs
+
+same-length-14 : tie.Need-same-length-14
+same-length-14 c = search needs
+
+same-length-15 : tie.Need-same-length-15
+same-length-15 c = search needs
+
+same-length-16 : tie.Need-same-length-16
+same-length-16 c = search needs
+
+returns-5 : tie.Need-returns-5
+returns-5 c = hunted (c .before .before .before .before .before .before) _ (c .enum-told3 .given .1)
+
+pub search-in-room-spec : {M : Type 1} → statement M
+search-in-room-spec =
+    tie.close
+    (tie.spec
+    copied-requires
+    same-length
+    same-length-2
+    returns
+    settle-requires
+    enum-told
+    enum-told-2
+    same-length-3
+    same-length-4
+    returns-2
+    copy-requires
+    hunt-requires
+    enum-known-tries
+    copy-requires-2
+    enum-known-tries-2
+    enum-told-3
+    same-length-5
+    same-length-6
+    same-length-7
+    same-length-8
+    returns-3
+    same-length-9
+    same-length-10
+    same-length-11
+    same-length-12
+    returns-4
+    same-length-13
+    same-length-14
+    same-length-15
+    same-length-16
+    returns-5)

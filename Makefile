@@ -4,7 +4,7 @@
 test:
 	@rt ci
 
-# make bench: how long closings take beside a plain C version of the same method, and that both answer the same.
+# make bench: how long closings and searches take beside plain C versions of the same methods, and that both answer the same.
 bench:
 	@rt staticlib talung
 	@sh bench/run.sh

@@ -1,11 +1,10 @@
 -- The three demands, sentence by sentence. Each theorem speaks of whatever the calls may answer and leave by their promises, and of nothing else.
 -- Assumes nothing.
-use mathlib.Core.Path.{_≡_, refl, sym, ap, _∙_, subst}
-use mathlib.Core.Bool.{Bool, true, false}
-use mathlib.Core.Logic.{_⊎_, inl, inr, ⊎-elim, _↔_}
+use mathlib.Core.Path.{_≡_, sym, ap, _∙_, subst}
+use mathlib.Core.Bool.{Bool}
+use mathlib.Core.Logic.{_⊎_, ⊎-elim, _↔_}
 use mathlib.Core.List.{List}
 use Prim.Native.Nat.{ℕ, _+_, _*_, _≤_, _<_}
-use native.Mathlib.Omega.{arith}
 use lib.ListN.{length}
 use lib.Dec.{T, not-T}
 use Rattle.rules.specs.Descriptions.{mostBoards, Sheet, good, refused, read}
@@ -15,12 +14,9 @@ use Rattle.rules.specs.Closed.{Largest}
 use Rattle.rules.specs.Closing.{closing}
 use Rattle.rules.specs.Search.{Order, none, tries, Least, Nowhere}
 use Rattle.rules.specs.Stages.{Stages}
-use Rattle.rules.proofs.Tests.{true-T}
 use Rattle.rules.proofs.Descriptions.{read-wellFormed}
-use Rattle.rules.proofs.Inside.{emptied-inside}
 use Rattle.rules.proofs.Largest.{closing-largest, largest-unique}
-use Rattle.rules.proofs.Arrangements.{arrangement-kept, arrangement-whole}
-use Rattle.rules.proofs.Search.{search-found, search-none}
+use Rattle.rules.proofs.Arrangements.{arrangement-kept}
 use Rattle.rules.proofs.Stages.{stages-clash, stages-table}
 use Rattle.rules.proofs.Calls.{strikes-counted, strikes-most}
 use Rattle.answers.specs.declared.Answer.{Answer}
@@ -40,10 +36,10 @@ use Rattle.search.proofs.search.Met as search-met
 use Rattle.checking.specs.Runs.{Checking}
 use Rattle.checking.proofs.check.Statement as check
 use Rattle.checking.proofs.check.Met as check-met
-use Rattle.demands.specs.Entries.{Call, searches, checks, Reads, Freshens, Refuses, Arranges}
+use Rattle.demands.specs.Entries.{Call, searches, Reads, Freshens, Refuses, Arranges}
 use Rattle.demands.proofs.Refusing.{refuses, reading-refused, reading-good, call-gives, gives-description, gives-table, gives-leaves, gives-good}
-use Rattle.demands.proofs.Finding.{stated, Found, Nothing, Spent, search-ends, budget-more, check-ends}
-use Rattle.demands.proofs.Ending.{Ends, ends, done, run, same-boards}
+use Rattle.demands.proofs.Finding.{stated, search-ends, ways-found, ways-none, ways-out, out-ways, ways-within, ways-tries, budget-more, stated-found, stated-none, check-ends, check-rejects, check-accepts, check-accepted}
+use Rattle.demands.proofs.Ending.{ends, ends-answers, ends-keeps, ends-contradictory, done, run, same-boards}
 
 -- ==== Demand 1
 
@@ -79,70 +75,41 @@ fresh-cells-refused v t a w call l m f = refuses t a w (call ∙ sym (fresh-no-c
 
 -- ==== Demand 2
 
--- For a good description, a well-formed table, any order of relations and any budget:
+-- For a good description, a well-formed table, any order of relations (the call's own is E, A, B, S) and any budget:
 module _ {ord : List ℕ} (order : Order ord) (ws : List ℕ) (s : Sheet) (means : read ws ≡ good s) (t : List ℕ) (table : Table (s .boards) t) (b : ℕ)
     (a : Answer) (w : List ℕ) (call : Searching ord ws t b a w)
   where
-    ways : Found (stated ord s t) b a w ⊎ (Nothing (stated ord s t) b t a w ⊎ Spent (stated ord s t) b t a w)
-    ways = search-ends ord ws s means t table b a w call
-
-    first : a .number ≡ 0 → Least s ord t w
-    first z =
-        ⊎-elim (λ f. search-found (read-wellFormed ws s means) (closing-largest s) order t table (a .count) w (f .end))
-        (⊎-elim (λ f. let e : a .number ≡ 8 = f .number in let y : ⊥ = omega arith in absurd y) (λ f. let e : a .number ≡ 9 = f .number in let y : ⊥ = omega arith in absurd y))
-        ways
-
     -- The search agrees with the published tree constraints with set operators: what it finds is an arrangement, inside the lent table.
     pub found-is-arrangement : a .number ≡ 0 → Arrangement s w × Inside w t
-    found-is-arrangement z = let l = first z in (l .arrangement, l .inside)
+    found-is-arrangement z =
+        let l = stated-found order ws s means t table (a .count) w (ways-found (search-ends ord ws s means t table b a w call) z) in (l .arrangement, l .inside)
 
     -- It says the budget ran out exactly when the stated search needs more tries than allowed;
     pub ran-out-exactly : (a .number ≡ 9) ↔ (b < tries (stated ord s t))
-    ran-out-exactly =
-        ⊎-elim
-        (λ f. (
-          λ e. let z : a .number ≡ 0 = f .number in let y : ⊥ = omega arith in absurd y,
-          λ m. let l : tries (stated ord s t) ≤ b = f .enough in let y : ⊥ = omega arith in absurd y,
-        ))
-        (⊎-elim
-        (λ f. (
-          λ e. let z : a .number ≡ 8 = f .number in let y : ⊥ = omega arith in absurd y,
-          λ m. let l : tries (stated ord s t) ≤ b = f .enough in let y : ⊥ = omega arith in absurd y,
-        ))
-        (λ f. (λ e. f .more, λ m. f .number))) ways
+    ran-out-exactly = let ways = search-ends ord ws s means t table b a w call in (λ e. ways-out ways e .0, λ h. out-ways ways h)
 
     -- otherwise it gives the first arrangement inside the lent table, in the stated order,
     pub found-is-first : a .number ≡ 0 → Least s ord t w
-    found-is-first z = first z
+    found-is-first z = stated-found order ws s means t table (a .count) w (ways-found (search-ends ord ws s means t table b a w call) z)
 
     pub first-is-found : tries (stated ord s t) ≤ b → (x : List ℕ) → Arrangement s x → Inside x t → a .number ≡ 0
     first-is-found l x r i =
-        ⊎-elim (λ f. f .number)
-        (⊎-elim
-        (λ f. absurd (search-none (read-wellFormed ws s means) (closing-largest s) order t table (a .count) (f .end) x r i))
-        (λ f. let m : b < tries (stated ord s t) = f .more in let y : ⊥ = omega arith in absurd y)) ways
+        let ways = search-ends ord ws s means t table b a w call in
+        ⊎-elim (λ z. z) (λ e. absurd (stated-none order ws s means t table (a .count) (ways-none ways e) x r i)) (ways-within ways l)
 
     -- or "none" exactly when there is none.
     pub none-exactly : tries (stated ord s t) ≤ b → (a .number ≡ 8) ↔ Nowhere s t
-    none-exactly l =
-        ⊎-elim
-        (λ f. (
-          λ e. let z : a .number ≡ 0 = f .number in let y : ⊥ = omega arith in absurd y,
-          λ n. let g = found-is-first (f .number) in absurd (n w (g .arrangement) (g .inside)),
-        ))
-        (⊎-elim
-        (λ f. (λ e. search-none (read-wellFormed ws s means) (closing-largest s) order t table (a .count) (f .end), λ n. f .number))
-        (λ f. let m : b < tries (stated ord s t) = f .more in let y : ⊥ = omega arith in absurd y)) ways
+    none-exactly l = let ways = search-ends ord ws s means t table b a w call in (
+      λ e. stated-none order ws s means t table (a .count) (ways-none ways e),
+      λ n. ⊎-elim (λ z. let f = found-is-first z in absurd (n w (f .arrangement) (f .inside))) (λ e. e) (ways-within ways l),
+    )
 
     -- The answer carries the tries that the stated search makes, or the budget where that ran out.
     pub answer-carries-tries : (a .number ≡ 9 → ⊥) → a .count ≡ tries (stated ord s t)
-    answer-carries-tries n =
-        ⊎-elim (λ f. sym (ap tries (f .end))) (⊎-elim (λ f. sym (ap tries (f .end))) (λ f. absurd (n (f .number)))) ways
+    answer-carries-tries n = ways-tries (search-ends ord ws s means t table b a w call) n
 
     pub answer-carries-budget : a .number ≡ 9 → a .count ≡ b
-    answer-carries-budget e =
-        ⊎-elim (λ f. let z : a .number ≡ 0 = f .number in let y : ⊥ = omega arith in absurd y)
-        (⊎-elim (λ f. let z : a .number ≡ 8 = f .number in let y : ⊥ = omega arith in absurd y) (λ f. f .count)) ways
+    answer-carries-budget e = ways-out (search-ends ord ws s means t table b a w call) e .1
 
 -- A larger budget changes no answer other than 9, whatever is lent.
 pub larger-budget-same : (ord ws t : List ℕ) (b c : ℕ) → b ≤ c → (a d : Answer) (u w : List ℕ) → Searching ord ws t b a u → Searching ord ws t c d w
@@ -151,15 +118,12 @@ larger-budget-same ord ws t b c l a d u w p q n = outcome-determined a d u w (p 
 
 -- The check accepts exactly the arrangements, whatever is lent.
 pub check-accepts-exactly : (ws t : List ℕ) (a : Answer) → Checking ws t a → (a .number ≡ 0) ↔ Arranges ws t
-check-accepts-exactly ws t a call = (accepts, accepted)
-  where
-    accepts : a .number ≡ 0 → Arranges ws t
-    accepts z =
-        let g = gives-good ws t a t (call-gives ws t a t (checks call refl)) z in
-        ⊎-elim (λ d. (g .0, g .1, d .1)) (λ d. let e : a .number ≡ 10 = d .0 in let y : ⊥ = omega arith in absurd y) (check-ends ws (g .0) (g .1) t (g .2) a call)
+check-accepts-exactly ws t a call = (check-accepts ws t a call, check-accepted ws t a call)
 
-    accepted : Arranges ws t → a .number ≡ 0
-    accepted r = ⊎-elim (λ d. d .0) (λ d. absurd (d .1 (r .2))) (check-ends ws (r .0) (r .1) t (r .2 .table) a call)
+-- Of a good description and a well-formed table it says 10 exactly where the table is no arrangement.
+pub check-rejects-exactly : (ws : List ℕ) (s : Sheet) → read ws ≡ good s → (t : List ℕ) → Table (s .boards) t → (a : Answer) → Checking ws t a
+    → (a .number ≡ 10) ↔ (Arrangement s t → ⊥)
+check-rejects-exactly ws s means t table a call = check-rejects a (check-ends ws s means t table a call)
 
 -- What the search finds, the check accepts.
 pub found-is-accepted : {ord : List ℕ} → Order ord → (ws t : List ℕ) (b : ℕ) (a : Answer) (w : List ℕ) → Searching ord ws t b a w → a .number ≡ 0
@@ -172,16 +136,9 @@ found-is-accepted {ord} order ws t b a w call z c checked =
 
 -- For a good description and a well-formed table:
 module _ (ws : List ℕ) (s : Sheet) (means : read ws ≡ good s) (t : List ℕ) (table : Table (s .boards) t) (a : Answer) (w : List ℕ) (call : Closing ws t a w) where
-  ending : (b : Bool) × Ends s t a w b
-  ending = ends ws s means t table a w call
-
   -- Closing a well-formed table under a well-formed description answers 0 or 7, and nothing else.
   pub closing-answers : (a .number ≡ 0) ⊎ (a .number ≡ 7)
-  closing-answers = go (ending .0) (ending .1 .number)
-    where
-      go : (b : Bool) → a .number ≡ elim b [ true ↦ 7 | false ↦ 0 ] → (a .number ≡ 0) ⊎ (a .number ≡ 7)
-      go true e = inr e
-      go false e = inl e
+  closing-answers = ends-answers (ends ws s means t table a w call)
 
   module _ (closed : a .number ≡ 0) where
     -- It gives the largest table inside it that obeys every rule,
@@ -202,28 +159,12 @@ module _ (ws : List ℕ) (s : Sheet) (means : read ws ≡ good s) (t : List ℕ)
 
   -- It loses no arrangement.
   pub closing-loses-none : (x : List ℕ) → Arrangement s x → Inside x t → (a .number ≡ 0) × Inside x w
-  closing-loses-none x r i = go (ending .0) (ending .1)
-    where
-      kept : Inside x (closing s t)
-      kept = arrangement-kept (read-wellFormed ws s means) (closing-largest s t table) r i
-
-      go : (b : Bool) → Ends s t a w b → (a .number ≡ 0) × Inside x w
-      go true e = absurd (arrangement-whole r (emptied-inside (r .table) kept (true-T (e .empty))))
-      go false e = (e .number, subst (Inside x) (sym (e .leaves)) kept)
+  closing-loses-none x r i =
+      ends-keeps (ends ws s means t table a w call) (arrangement-kept (read-wellFormed ws s means) (closing-largest s t table) r i) r
 
   -- It is contradictory exactly when that largest table has an empty cell.
   pub closing-contradictory : (u : List ℕ) → Largest s t u → (a .number ≡ 7) ↔ T (emptied u)
-  closing-contradictory u l = go (ending .0) (ending .1)
-    where
-      same : closing s t ≡ u
-      same = largest-unique (closing-largest s t table) l
-
-      go : (b : Bool) → Ends s t a w b → (a .number ≡ 7) ↔ T (emptied u)
-      go true e = (λ n. subst (λ (v : List ℕ). T (emptied v)) same (true-T (e .empty)), λ t. e .number)
-      go false e = (
-        λ n. let z : _≡_ {A = ℕ} 0 7 = sym (e .number) ∙ n in let y : ⊥ = omega arith in absurd y,
-        λ t. absurd (subst T (sym (ap emptied same) ∙ e .empty) t),
-      )
+  closing-contradictory u l = ends-contradictory (ends ws s means t table a w call) u (largest-unique (closing-largest s t table) l)
 
 -- One call under all the lines, and any run of calls under some of them, in any order, the last under all:
 module _ (one : Stage) (gs : List Stage) (stages : Stages (one .sheet) (sheets gs)) (t : List ℕ) (table : Table (one .sheet .boards) t)

@@ -1,17 +1,21 @@
 -- How a closing ends under a good description, by its promise, and that calls in stages are a run of closings. Assumes nothing.
 use mathlib.Core.Path.{_≡_, refl, sym, ap, _∙_, subst}
 use mathlib.Core.Bool.{Bool, true, false, _||_}
-use mathlib.Core.Logic.{_⊎_, ⊎-elim}
+use mathlib.Core.Logic.{_⊎_, inl, inr, ⊎-elim, _↔_}
 use mathlib.Core.List.{List, [], _∷_, List·Memᴰ, List·Memᴰ·head, List·Memᴰ·tail, List·Memᴰ·cases-cons, List·Memᴰ·eq-of-singleton}
 use Prim.Native.Nat.{ℕ}
 use native.Mathlib.Omega.{arith}
-use lib.Dec.{eqb}
+use lib.Dec.{T, eqb}
 use Rattle.rules.specs.Descriptions.{Sheet, good, read}
-use Rattle.rules.specs.Tables.{Table, emptied}
+use Rattle.rules.specs.Tables.{Table, Inside, emptied}
+use Rattle.rules.specs.Arrangements.{Arrangement}
 use Rattle.rules.specs.Closed.{Largest, strikes}
 use Rattle.rules.specs.Closing.{closing}
 use Rattle.rules.specs.Stages.{left, Run, Stages}
 use Rattle.rules.specs.Calls.{Outcome}
+use Rattle.rules.proofs.Tests.{true-T}
+use Rattle.rules.proofs.Inside.{emptied-inside}
+use Rattle.rules.proofs.Arrangements.{arrangement-whole}
 use Rattle.rules.proofs.Largest.{closing-largest}
 use Rattle.answers.specs.declared.Answer.{Answer}
 use Rattle.answers.specs.Answers.{outcome}
@@ -53,6 +57,32 @@ module _ (ws : List ℕ) (s : Sheet) (means : read ws ≡ good s) (t : List ℕ)
         go : (b : Bool) → Ends s t a w b → (emptied (closing s t) ≡ false) × (w ≡ closing s t) × (a .count ≡ strikes t (closing s t))
         go true e = let z : _≡_ {A = ℕ} 7 0 = sym (e .number) ∙ closed in let y : ⊥ = omega arith in absurd y
         go false e = (e .empty, e .leaves, e .count)
+
+-- what follows from how it ended
+module _ {s : Sheet} {t : List ℕ} {a : Answer} {w : List ℕ} (ended : (b : Bool) × Ends s t a w b) where
+  pub ends-answers : (a .number ≡ 0) ⊎ (a .number ≡ 7)
+  ends-answers = go (ended .0) (ended .1 .number)
+    where
+      go : (b : Bool) → a .number ≡ elim b [ true ↦ 7 | false ↦ 0 ] → (a .number ≡ 0) ⊎ (a .number ≡ 7)
+      go true e = inr e
+      go false e = inl e
+
+  pub ends-keeps : {x : List ℕ} → Inside x (closing s t) → Arrangement s x → (a .number ≡ 0) × Inside x w
+  ends-keeps {x} kept r = go (ended .0) (ended .1)
+    where
+      go : (b : Bool) → Ends s t a w b → (a .number ≡ 0) × Inside x w
+      go true e = absurd (arrangement-whole r (emptied-inside (r .table) kept (true-T (e .empty))))
+      go false e = (e .number, subst (Inside x) (sym (e .leaves)) kept)
+
+  pub ends-contradictory : (u : List ℕ) → closing s t ≡ u → (a .number ≡ 7) ↔ T (emptied u)
+  ends-contradictory u same = go (ended .0) (ended .1)
+    where
+      go : (b : Bool) → Ends s t a w b → (a .number ≡ 7) ↔ T (emptied u)
+      go true e = (λ n. subst (λ (v : List ℕ). T (emptied v)) same (true-T (e .empty)), λ t. e .number)
+      go false e = (
+        λ n. let z : _≡_ {A = ℕ} 0 7 = sym (e .number) ∙ n in let y : ⊥ = omega arith in absurd y,
+        λ t. absurd (subst T (sym (ap emptied same) ∙ e .empty) t),
+      )
 
 -- ---- stages
 

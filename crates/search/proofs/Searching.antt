@@ -4,6 +4,7 @@ use mathlib.Core.List.{List}
 use Prim.Native.Nat.{ℕ, zero, suc, _≤_, _<_}
 use native.Mathlib.Omega.{arith}
 use lib.Dec.{T}
+use lib.Pow.{pow-pos}
 use lib.ListN.{length, getD, replicate, length-replicate}
 use Rattle.rules.specs.Relations.{relations, sets}
 use Rattle.rules.specs.Descriptions.{mostBoards, Sheet, good, refused, read}
@@ -11,7 +12,7 @@ use Rattle.rules.specs.Tables.{Table, emptied}
 use Rattle.rules.specs.Closed.{Largest}
 use Rattle.rules.specs.Closing.{closing}
 use Rattle.rules.specs.Search.{End, found, none, choose, places, search, Capped, ended, ranOut, cap}
-use Rattle.rules.specs.Calls.{Outcome, refuse, succeed, answer, searching}
+use Rattle.rules.specs.Calls.{Outcome, refuse, answer, searching}
 use Rattle.rules.proofs.Largest.{closing-largest, largest-unique}
 use Rattle.rules.proofs.Search.{cap-in}
 use Rattle.rules.proofs.Calls.{given-refused, given-no-table, given-good}
@@ -23,15 +24,9 @@ use Rattle.search.specs.declared.Ended.{Ended}
 use Rattle.search.specs.declared.Ended.the-variants.{Arranged, Nowhere, RanOut}
 use Rattle.search.specs.Choices.{Bytes}
 use Rattle.search.specs.Hunts.{Whole}
-use Rattle.search.specs.Tries.{mostPairs, ends}
+use Rattle.search.specs.Tries.{concluded, mostPairs, ends}
 use Rattle.search.proofs.Walking.{pairs-most}
 use Rattle.search.proofs.Resuming.{proceed-none, proceed-on}
-
--- the outcome where the tries within the budget b ended so, with the cells w
-abbrev pub left : List ℕ → ℕ → List ℕ → Ended → Outcome
-left t b w (Arranged n) = succeed n w
-left t b w (Nowhere n) = refuse 8 n t
-left t b w RanOut = refuse 9 b t
 
 module _ (ord ws t : List ℕ) (b : ℕ) where
   after : Sheet → Outcome
@@ -69,13 +64,13 @@ module _ (ord ws t : List ℕ) (b : ℕ) where
             proceed-on (λ u. choose (closing s) ord (places (s .boards)) u) (closing s t) (subst Filled (sym e) filled)
             ∙ ap (choose (closing s) ord (places (s .boards))) e
 
-        pub search-ended : (w : List ℕ) (r : Ended) → ends (choose (closing s) ord (places (s .boards)) first) b w r → left t b w r ≡ searching ord ws t b
+        pub search-ended : (w : List ℕ) (r : Ended) → ends (choose (closing s) ord (places (s .boards)) first) b w r → concluded t b w r ≡ searching ord ws t b
         search-ended w r e = by r e
           where
             whole : (c : Capped) → cap b (choose (closing s) ord (places (s .boards)) first) ≡ c → answer t c ≡ searching ord ws t b
             whole c e = sym (search-good ∙ ap (λ (x : End). answer t (cap b x)) on ∙ ap (answer t) e)
 
-            by : (r : Ended) → ends (choose (closing s) ord (places (s .boards)) first) b w r → left t b w r ≡ searching ord ws t b
+            by : (r : Ended) → ends (choose (closing s) ord (places (s .boards)) first) b w r → concluded t b w r ≡ searching ord ws t b
             by (Arranged n) e = whole (ended (found n w)) e
             by (Nowhere n) e = whole (ended (none n)) e
             by RanOut e = whole (ranOut b) e
@@ -95,11 +90,11 @@ module _ (ord ws t : List ℕ) (b : ℕ) {s : Sheet} (means : read ws ≡ good s
   search-emptied e =
       search-clash ord ws t b s means table (subst (λ (x : List ℕ). T (emptied (closing s x))) copy (subst (closes s u first) e closed))
 
-  pub search-struck : {n : ℕ} → r ≡ Struck n → (w : List ℕ) (x e : Ended) → ends (choose (closing s) ord (places (s .boards)) first) b w x → x ≡ e
-      → left t b w e ≡ searching ord ws t b
-  search-struck {n} f w x e h g =
+  pub search-struck : {n : ℕ} → r ≡ Struck n → (w : List ℕ) (e : Ended) → ends (choose (closing s) ord (places (s .boards)) first) b w e
+      → concluded t b w e ≡ searching ord ws t b
+  search-struck {n} f w e h =
       let k : Closes s t first n = subst (λ (x : List ℕ). Closes s x first n) copy (subst (closes s u first) f closed) in
-      search-ended ord ws t b s means table first (k .largest) (k .filled) w e (subst (ends (choose (closing s) ord (places (s .boards)) first) b w) g h)
+      search-ended ord ws t b s means table first (k .largest) (k .filled) w e h
 
 -- ---- room for the choices
 
@@ -109,9 +104,8 @@ zeros (suc n) zero = refl
 zeros (suc n) (suc m) = zeros n m
 
 pub room-bytes : {v : ℕ} {r : List ℕ} → v ≤ mostBoards → r ≡ replicate mostPairs 0 → Bytes v r
-unfolding relations
 room-bytes {v} {r} h e =
     record {
       room = omega (arith, pairs-most v h, ap length e ∙ length-replicate {A = ℕ} mostPairs 0);
-      small = λ m. subst (λ (x : ℕ). x < sets) (sym (ap (λ (l : List ℕ). getD l m 0) e ∙ zeros mostPairs m)) (omega arith);
+      small = λ m. subst (λ (x : ℕ). x < sets) (sym (ap (λ (l : List ℕ). getD l m 0) e ∙ zeros mostPairs m)) (pow-pos relations);
     }

@@ -6,6 +6,7 @@ use lib.ListN.{length}
 use Rattle.rules.specs.Descriptions.{mostBoards, Sheet, good, read}
 use Rattle.rules.specs.Closing.{closing}
 use Rattle.rules.specs.Search.{Order, End, found, none, later, ended, ranOut, cap}
+use Rattle.rules.specs.Calls.{Outcome, refuse, succeed}
 use Rattle.passes.specs.Passes.{Ready}
 use Rattle.sheet.specs.declared.header.Header.{Header}
 use Rattle.sheet.specs.declared.header.HeaderFound.the-variants.{Good}
@@ -66,6 +67,12 @@ abbrev pub ends : End → ℕ → List ℕ → Ended → Type 0
 ends e b w (Arranged n) = cap b e ≡ ended (found n w)
 ends e b w (Nowhere n) = cap b e ≡ ended (none n)
 ends e b w RanOut = cap b e ≡ ranOut b
+
+-- the outcome where the tries within the budget b ended so, with the cells w
+abbrev pub concluded : List ℕ → ℕ → List ℕ → Ended → Outcome
+concluded t b w (Arranged n) = succeed n w
+concluded t b w (Nowhere n) = refuse 8 n t
+concluded t b w RanOut = refuse 9 b t
 
 -- a table of the right number of cells, with room for a search
 pub record Roomy (h : Header) (ws ord t first cs u : List ℕ) : Type 0 where

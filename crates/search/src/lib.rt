@@ -4,12 +4,12 @@ mod choices;
 mod places;
 
 ghost use mathlib.Core.Path.{_≡_};
-ghost use lib.ListN.{replicate};
+ghost use lib.ListN.{length, replicate};
 ghost use Rattle.rules.specs.Closing.{closing};
 ghost use Rattle.rules.specs.Search.{plainOrder, choose, places};
 ghost use Rattle.rules.specs.Calls.{searching};
 ghost use Rattle.answers.specs.Answers.{outcome};
-ghost use Rattle.search.specs.Tries.{mostPairs, Failed, retreats, Under, Trying, Tried, Hunting, ends, Roomy};
+ghost use Rattle.search.specs.Tries.{mostPairs, Failed, retreats, Under, Trying, Tried, Hunting, ends, concluded, Roomy};
 use crate::choices::Next;
 use crate::choices::back;
 use crate::choices::onward;
@@ -111,6 +111,30 @@ fn hunt(
     }
 }
 
+// What a search that ended so answers, and leaves of the lent table: the cells, if they are an arrangement.
+fn conclude(ended: Ended, budget: u32, cells: &[u8], table: &mut [u8]) -> Answer
+    requires { ⌜ length (now table) ≡ length (now cells) ⌝ }
+    ensures { λ a. ⌜ outcome a (now (table .exit)) ≡ concluded (now (table .entry)) budget (now (cells .entry)) ended ⌝ }
+{
+    match ended {
+        Ended::Arranged(tries) => {
+            tables::copy(cells, table);
+            Answer {
+                number: 0,
+                count: tries,
+            }
+        }
+        Ended::Nowhere(tries) => Answer {
+            number: NOWHERE,
+            count: tries,
+        },
+        Ended::RanOut => Answer {
+            number: RAN_OUT,
+            count: budget,
+        },
+    }
+}
+
 // Searches a table of the right number of cells: in the room for the first table, for the cells and for the choices.
 fn search_in_room(
     h: Header,
@@ -138,23 +162,8 @@ fn search_in_room(
         };
     };
     tables::copy(first, cells);
-    match hunt(h, words, order, budget, first, choices, cells) {
-        Ended::Arranged(tries) => {
-            tables::copy(cells, table);
-            Answer {
-                number: 0,
-                count: tries,
-            }
-        }
-        Ended::Nowhere(tries) => Answer {
-            number: NOWHERE,
-            count: tries,
-        },
-        Ended::RanOut => Answer {
-            number: RAN_OUT,
-            count: budget,
-        },
-    }
+    let ended = hunt(h, words, order, budget, first, choices, cells);
+    conclude(ended, budget, cells, table)
 }
 
 // The order E, A, B, S.

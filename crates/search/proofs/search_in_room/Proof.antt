@@ -1,11 +1,9 @@
 -- `search_in_room` meets its contract: each of its ends is one of the laws of a search. Assumes nothing.
-use mathlib.Core.Path.{_≡_, sym, ap, _∙_, subst}
-use Rattle.rules.specs.Calls.{succeed, searching}
+use mathlib.Core.Path.{sym, _∙_, subst}
 use Rattle.passes.specs.Passes.{Ready}
 use Rattle.sheet.proofs.Described.{described}
 use Rattle.tables.proofs.Copying.{copied-none, copied-ready}
-use Rattle.search.specs.declared.Ended.{Ended}
-use Rattle.search.proofs.Searching.{search-no-table, first-whole, left, search-emptied, search-struck}
+use Rattle.search.proofs.Searching.{search-no-table, first-whole, search-emptied, search-struck}
 use borrow.Author.Needs.{needs}
 use Rattle.search.proofs.search_in_room.Statement.{statement}
 use Rattle.search.proofs.search_in_room.Tie as tie
@@ -73,35 +71,8 @@ hunt-requires c κs =
       cells = c .before .before .before .before .before .copy .ensures;
     }
 
-enum-known-tries : tie.Need-enum-known-tries
-enum-known-tries c = search needs
-
--- how the call ends, by how the tries end
-abbrev before-hunt : tie.After-hunt → tie.Start
-before-hunt c = c .before .before .before .before .before .before .before .before .before .before .before .before .before .before .before .before .before .before .before .before .before .before .before .before .before .before .before
-
-hunted : (c : tie.After-hunt) (e : Ended) → c .hunt .result ≡ e
-    → left (before-hunt c .args .table .now) (before-hunt c .args .budget) (c .hunt .last .1 .1 .1 .1 .1 .1 .0) e
-    ≡ searching (before-hunt c .args .order .now) (before-hunt c .args .words .now) (before-hunt c .args .table .now) (before-hunt c .args .budget)
-hunted c e f =
-    let start = before-hunt c in
-    let d = described (start .args .words .now) (start .args .h) (start .pre .header) in
-    let copy = c .before .before .before .before .before .before .before .before .before .before .before .before .before .before .before .before .before .before .copied .ensures .copy in
-    let closed = c .before .before .before .before .before .before .before .before .before .before .before .before .before .settle .ensures (d .0) (d .1 .means) in
-    search-struck (start .args .order .now) (start .args .words .now) (start .args .table .now) (start .args .budget) (d .1 .means) (d .1 .boards) (table-ready (c .before .before .before .before .before .before .before .before .before .before .before .before .before .before .before)) copy _ _ closed
-    (c .before .before .before .before .before .before .before .before .before .enum-told .given .1) _ _ e (c .hunt .ensures (d .0) (d .1 .means)) f
-
-copy-requires-2 : tie.Need-copy-requires-2
-copy-requires-2 c κs =
-    let start = c .before .before .before .before .before .before .before .before .before .before .before .before .before .before .before .before .before .before .before .before .before .before .before .before .before .before .before .before .before .before .before .before .before .before .before .before in
-    let kept = c .before .before .before .before .before .before .before .before .before .hunt .kept .1 .1 .1 .1 .1 .1 .0 ∙ c .before .before .before .before .before .before .before .before .before .before .before .before .before .before .before .copy .kept .1 .0 in
-    start .pre .table ∙ sym (kept ∙ start .pre .cells)
-
-enum-known-tries-2 : tie.Need-enum-known-tries-2
-enum-known-tries-2 c = search needs
-
-enum-told-3 : tie.Need-enum-told-3
-enum-told-3 c = search needs
+conclude-requires : tie.Need-conclude-requires
+conclude-requires c κs = search needs
 
 same-length-5 : tie.Need-same-length-5
 same-length-5 c = search needs
@@ -117,38 +88,14 @@ same-length-8 c = search needs
 
 returns-3 : tie.Need-returns-3
 returns-3 c =
-    ap (succeed (c .before .before .before .before .before .before .tries .given .0 .0)) (c .before .before .copy2 .ensures)
-    ∙ hunted (c .before .before .before .before .before .before .before .before .before .before .before .before) _ (c .before .before .before .before .before .before .tries .given .1)
-
-same-length-9 : tie.Need-same-length-9
-same-length-9 c = search needs
-
-same-length-10 : tie.Need-same-length-10
-same-length-10 c = search needs
-
-same-length-11 : tie.Need-same-length-11
-same-length-11 c = search needs
-
-same-length-12 : tie.Need-same-length-12
-same-length-12 c = search needs
-
-returns-4 : tie.Need-returns-4
-returns-4 c = hunted (c .before .before .before .before .before .before .before) _ (c .before .tries2 .given .1)
-
-same-length-13 : tie.Need-same-length-13
-same-length-13 c = search needs
-
-same-length-14 : tie.Need-same-length-14
-same-length-14 c = search needs
-
-same-length-15 : tie.Need-same-length-15
-same-length-15 c = search needs
-
-same-length-16 : tie.Need-same-length-16
-same-length-16 c = search needs
-
-returns-5 : tie.Need-returns-5
-returns-5 c = hunted (c .before .before .before .before .before .before) _ (c .enum-told3 .given .1)
+    let start = c .before .before .before .before .before .before .before .before .before .before .before .before .before .before .before .before .before .before .before .before .before .before .before .before .before .before .before .before .before .before .before .before .before .before .before .before in
+    let d = described (start .args .words .now) (start .args .h) (start .pre .header) in
+    let copy = c .before .before .before .before .before .before .before .before .before .before .before .before .before .before .before .before .before .before .before .before .before .before .before .before .before .before .before .copied .ensures .copy in
+    let closed = c .before .before .before .before .before .before .before .before .before .before .before .before .before .before .before .before .before .before .before .before .before .before .settle .ensures (d .0) (d .1 .means) in
+    let hunted = c .before .before .before .before .before .before .before .before .before .hunt in
+    c .before .before .conclude .ensures
+    ∙ search-struck (start .args .order .now) (start .args .words .now) (start .args .table .now) (start .args .budget) (d .1 .means) (d .1 .boards) (table-ready (c .before .before .before .before .before .before .before .before .before .before .before .before .before .before .before .before .before .before .before .before .before .before .before .before)) copy _ _ closed
+    (c .before .before .before .before .before .before .before .before .before .before .before .before .before .before .before .before .before .before .enum-told .given .1) (hunted .last .1 .1 .1 .1 .1 .1 .0) (hunted .result) (hunted .ensures (d .0) (d .1 .means))
 
 pub search-in-room-spec : {M : Type 1} → statement M
 search-in-room-spec =
@@ -166,22 +113,9 @@ search-in-room-spec =
     returns-2
     copy-requires
     hunt-requires
-    enum-known-tries
-    copy-requires-2
-    enum-known-tries-2
-    enum-told-3
+    conclude-requires
     same-length-5
     same-length-6
     same-length-7
     same-length-8
-    returns-3
-    same-length-9
-    same-length-10
-    same-length-11
-    same-length-12
-    returns-4
-    same-length-13
-    same-length-14
-    same-length-15
-    same-length-16
-    returns-5)
+    returns-3)

@@ -18,6 +18,7 @@ use Rattle.rules.proofs.Members.{each-of-out, upTo-in, member-at}
 use Rattle.rules.proofs.Inside.{in-range}
 use Rattle.rules.proofs.Choices.{all-places}
 use Rattle.search.specs.declared.places.Place.{Place}
+use Rattle.search.specs.Tries.{mostPairs}
 use Rattle.search.specs.Pairs.{place, before, Pair}
 
 -- ---- ranges of numbers
@@ -179,11 +180,12 @@ pub place-cell : (v m : ℕ) → m < length (places v) → place v m < v * v
 place-cell v m h =
     all-places (λ k. k < v * v) v (λ p q l g. in-range v p q (omega arith) g) (place v m) (member-at (places v) m h)
 
--- sixteen boards have 120 pairs, and fewer boards have no more
-pub pairs-most : (v : ℕ) → v ≤ mostBoards → length (places v) ≤ 120
+-- the most boards have this many pairs, and fewer boards have no more
+pub pairs-most : (v : ℕ) → v ≤ mostBoards → length (places v) ≤ mostPairs
 unfolding places flatMap
 pairs-most v h =
-    leb→le (length (places v)) 120 (each-of-out (λ n. leb (length (places n)) 120) (upTo 17) tt v (upTo-in {n = 17} {j = v} (omega arith)))
+    leb→le (length (places v)) mostPairs
+    (each-of-out (λ n. leb (length (places n)) mostPairs) (upTo (suc mostBoards)) tt v (upTo-in {n = suc mostBoards} {j = v} (omega arith)))
 
 -- ---- steps
 

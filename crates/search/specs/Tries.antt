@@ -1,7 +1,7 @@
 -- What a try, a run of tries and the whole search ask for and come to. Assumes nothing.
 use mathlib.Core.Path.{_≡_}
 use mathlib.Core.List.{List}
-use Prim.Native.Nat.{ℕ, _*_, _≤_, _<_}
+use Prim.Native.Nat.{ℕ, _-_, _*_, _/_, _≤_, _<_}
 use lib.ListN.{length}
 use Rattle.rules.specs.Descriptions.{mostBoards, Sheet, good, read}
 use Rattle.rules.specs.Closing.{closing}
@@ -22,7 +22,7 @@ use Rattle.search.specs.Hunts.{ahead, Whole, Due, due}
 
 -- the most pairs
 abbrev pub mostPairs : ℕ
-mostPairs = 120
+mostPairs = mostBoards * (mostBoards - 1) / 2
 
 -- P holds of what the words mean
 abbrev pub Under : List ℕ → (Sheet → Type 0) → Type 0

@@ -22,6 +22,7 @@ use answers::Answer;
 use closing::sweeps::Swept;
 use sheet::header::Header;
 use sheet::header::HeaderFound;
+use sheet::header::MOST_BOARDS;
 
 // The refusals of a search: there is no arrangement inside the table; the budget ran out.
 pub const NOWHERE: u8 = 8;
@@ -29,7 +30,7 @@ pub const NOWHERE: u8 = 8;
 pub const RAN_OUT: u8 = 9;
 
 // The most pairs of boards.
-const MOST_PAIRS: usize = 120;
+const MOST_PAIRS: usize = MOST_BOARDS * (MOST_BOARDS - 1) / 2;
 
 // How a search ended: with an arrangement or with none, after so many tries, or out of budget.
 enum Ended {

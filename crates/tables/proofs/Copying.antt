@@ -5,6 +5,7 @@ use mathlib.Core.List.{List}
 use Prim.Native.Nat.{ℕ, _+_, _*_, _≤_, _<_}
 use native.Mathlib.Omega.{arith}
 use borrow.Author.Count.{below-more}
+use borrow.Author.Tests.{not-true, not-false}
 use lib.Dec.{T, eqb, eqb-refl, ltb, lt→ltb, ltb→lt}
 use lib.ListN.{length, getD, replicate, length-replicate}
 use Rattle.rules.specs.Relations.{eachOf, relations, sets}
@@ -53,21 +54,13 @@ copied-all {t} {w} {i} {b} c s h = record { said = go b refl; copy = laid-all c 
         (λ a. let m : getD t (d .0) 0 < sets = ltb→lt (getD t (d .0) 0) sets (each-of-out (λ x. ltb x sets) t a (getD t (d .0) 0) (member-at t (d .0) (omega (arith, d .1)))) in
         omega (arith, d .2)))
 
--- ---- what a copy says of the table, by the test that it was not made
-
-said-not : (b : Bool) → not b ≡ true → b ≡ false
-said-not true e = sym e
-said-not false e = refl
-
-said-so : (b : Bool) → not b ≡ false → b ≡ true
-said-so true e = refl
-said-so false e = sym e
+-- ---- what a copy says of the table, by the test that some cell is no set
 
 module _ {t w : List ℕ} {b : Bool} (c : Copied t w b) where
   pub copied-none : not b ≡ true → (v : ℕ) → Table v t → ⊥
   unfolding wellFormed
   copied-none e v h =
-      subst T (sym (c .said) ∙ said-not b e) (T-and-right (eqb (length t) (v * v)) (eachOf (λ x. ltb x sets) t) (table-wellFormed v t h))
+      subst T (sym (c .said) ∙ not-true b e) (T-and-right (eqb (length t) (v * v)) (eachOf (λ x. ltb x sets) t) (table-wellFormed v t h))
 
   pub copied-ready : {v : ℕ} → not b ≡ false → v ≤ mostBoards → length t ≡ v * v → Ready v t
   unfolding wellFormed
@@ -77,7 +70,7 @@ module _ {t w : List ℕ} {b : Bool} (c : Copied t w b) where
         table =
             wellFormed-table v t
             (and-T (eqb (length t) (v * v)) (eachOf (λ x. ltb x sets) t) (subst (λ (n : ℕ). T (eqb (length t) n)) f (eqb-refl (length t)))
-            (true-T (sym (c .said) ∙ said-so b e)));
+            (true-T (sym (c .said) ∙ not-false b e)));
       }
 
 -- ---- room for a table

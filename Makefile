@@ -1,10 +1,19 @@
 # make test: everything that is claimed, from nothing. The last line is the verdict, 'N passed, 0 failed'.
-.PHONY: test bench
+.PHONY: test lib c_example bench
 
 test:
 	@rt ci
 
-# make bench: how long closings and searches take beside plain C versions of the same methods, and that both answer the same.
-bench:
+# make lib: the library that people link and its header, in dist/.
+lib:
 	@rt staticlib talung
+	@mkdir -p dist
+	@cp include/talungbisay.h target/staticlib/libtalung.a dist/
+
+# make c_example: builds the example in C against dist/, runs it and compares what it writes.
+c_example: lib
+	@sh tests/c_example.sh
+
+# make bench: how long closings and searches take beside plain C versions of the same methods, and that both answer the same.
+bench: lib
 	@sh bench/run.sh

@@ -1,31 +1,13 @@
 /* Measures the product's closing and search beside the plain C versions: both work on the same sheets by turns, and each answer and each table is
    compared. */
+#include <stdio.h>
+#include <stdlib.h>
+#include <string.h>
+#include <time.h>
+
 #include "plain.h"
 #include "sheets.h"
-
-/* What is used of the C library, declared here because no header of it is needed to compile this. */
-struct timespec {
-    long tv_sec;
-    long tv_nsec;
-};
-
-enum { CLOCK_MONOTONIC = 1 };
-
-int clock_gettime(int clock, struct timespec *now);
-int printf(const char *format, ...);
-_Noreturn void exit(int status);
-void *memcpy(void *to, const void *from, size_t n);
-int memcmp(const void *one, const void *other, size_t n);
-
-/* The product's calls, with the same meaning as plain_close and plain_search. */
-uint64_t talung_close(const uint16_t *words, size_t n, uint8_t *table, size_t m);
-uint64_t talung_search(const uint16_t *words, size_t n, uint8_t *table, size_t m, uint32_t budget);
-
-enum {
-    CONTRADICTORY = 7,
-    NONE = 8,
-    SPENT = 9
-};
+#include "talungbisay.h"
 
 enum {
     GROUPS = CLOSED_GROUPS + SEARCHED_GROUPS,
@@ -71,16 +53,6 @@ static uint64_t plain_searches(const struct sheet *s, uint8_t *table)
 static work *const by_product[] = {[CLOSE] = product_closes, [SEARCH] = product_searches};
 static work *const by_plain[] = {[CLOSE] = plain_closes, [SEARCH] = plain_searches};
 
-static unsigned number_of(uint64_t answer)
-{
-    return answer % 256;
-}
-
-static unsigned long count_of(uint64_t answer)
-{
-    return answer / 256;
-}
-
 /* ---- comparing */
 
 /* Ends the program, with what is wrong. */
@@ -94,8 +66,8 @@ static _Noreturn void fail(const struct group *g, size_t i, const char *what)
 static void compare(const struct group *g, size_t i, uint64_t product, const uint8_t *product_table, uint64_t plain, const uint8_t *plain_table)
 {
     if (product != plain) {
-        printf("the product answers number %u count %lu, plain C number %u count %lu\n", number_of(product), count_of(product), number_of(plain),
-               count_of(plain));
+        printf("the product answers number %u count %u, plain C number %u count %u\n", talung_number(product), talung_count(product), talung_number(plain),
+               talung_count(plain));
         fail(g, i, "the answers differ");
     }
     for (size_t k = 0; k < MOST_TABLE; k++) {
@@ -109,8 +81,8 @@ static void compare(const struct group *g, size_t i, uint64_t product, const uin
 /* Ends the program unless the answer has this number; and, if that is a refusal, no count but of tries, and the table is as it came. */
 static void expect(const struct group *g, size_t i, uint64_t answer, unsigned number, const uint8_t *table)
 {
-    if (number_of(answer) != number || (0 < number && number < NONE && count_of(answer))) {
-        printf("answered number %u count %lu, made for number %u\n", number_of(answer), count_of(answer), number);
+    if (talung_number(answer) != number || (0 < number && number < TALUNG_NOWHERE && talung_count(answer))) {
+        printf("answered number %u count %u, made for number %u\n", talung_number(answer), talung_count(answer), number);
         fail(g, i, "not answered as it should be");
     }
     if (number && memcmp(table, g->sheets[i].table, MOST_TABLE))
@@ -121,7 +93,7 @@ static void expect(const struct group *g, size_t i, uint64_t answer, unsigned nu
 static void expect_site(const struct group *g, size_t i, const uint8_t *table)
 {
     const struct sheet *s = &g->sheets[i];
-    for (size_t k = 0; k < MOST_CELLS; k++) {
+    for (size_t k = 0; k < TALUNG_MOST_CELLS; k++) {
         if (s->site[k] & ~table[k])
             fail(g, i, "a cell has lost the site's relation");
     }
@@ -178,8 +150,8 @@ static void check_closed(const struct group *g)
         expect_site(g, i, tables[i]);
         uint8_t table[MOST_TABLE];
         uint64_t answer = search(g, i, BUDGET, table);
-        expect(g, i, answer, number == CONTRADICTORY ? NONE : number, table);
-        if (number == CONTRADICTORY && count_of(answer))
+        expect(g, i, answer, number == TALUNG_CONTRADICTORY ? TALUNG_NOWHERE : number, table);
+        if (number == TALUNG_CONTRADICTORY && talung_count(answer))
             fail(g, i, "tries in a contradictory table");
         if (number == 0)
             expect_arrangement(g, i, table);
@@ -191,9 +163,9 @@ static void check_budget(const struct group *g, size_t i, uint64_t answer, uint3
 {
     uint8_t table[MOST_TABLE];
     uint64_t other = search(g, i, budget, table);
-    int spent = number_of(answer) == SPENT || count_of(answer) > budget;
-    expect(g, i, other, spent ? SPENT : number_of(answer), table);
-    if (count_of(other) != (spent ? budget : count_of(answer)))
+    int spent = talung_number(answer) == TALUNG_RAN_OUT || talung_count(answer) > budget;
+    expect(g, i, other, spent ? TALUNG_RAN_OUT : talung_number(answer), table);
+    if (talung_count(other) != (spent ? budget : talung_count(answer)))
         fail(g, i, "another number of tries with another budget");
 }
 
@@ -203,9 +175,9 @@ static void check_searched(const struct group *g)
     answer_group(g);
     for (size_t i = 0; i < g->count; i++) {
         uint64_t answer = answers[i];
-        uint32_t count = count_of(answer);
+        uint32_t count = talung_count(answer);
         expect(g, i, answer, g->sheets[i].number, tables[i]);
-        if (number_of(answer) == 0)
+        if (talung_number(answer) == 0)
             expect_arrangement(g, i, tables[i]);
         if (count > 0)
             check_budget(g, i, answer, count - 1);

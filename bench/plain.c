@@ -22,17 +22,6 @@ enum {
     MOST_WAYS = 8
 };
 
-/* Refusals. */
-enum {
-    OUT_OF_RANGE = 1,
-    MISPLACED = 2,
-    UNFIT = 3,
-    NO_BOARD = 4,
-    NO_EXPRESSION = 5,
-    NO_TABLE = 6,
-    CONTRADICTORY = 7
-};
-
 /* The codes of an expression's operators; those below union stand for E, A, B and S. */
 enum {
     UNION = 4,
@@ -98,7 +87,7 @@ static const uint16_t *evaluate(const uint16_t *at, const uint16_t *end, uint8_t
     if (!at)
         return 0;
     if (code == COMPLEMENT) {
-        *set = FULL - x;
+        *set = TALUNG_ANY - x;
         return at;
     }
     if (code == INVERSE) {
@@ -117,15 +106,15 @@ static const uint16_t *evaluate(const uint16_t *at, const uint16_t *end, uint8_t
 static int read_relation_line(size_t v, const uint16_t *words, size_t n, struct relation_line *line)
 {
     if (n < HEAD_WORDS)
-        return UNFIT;
+        return TALUNG_UNFIT;
     size_t length = words[2];
     if (length < 1 || length > MOST_WORDS || length > n - HEAD_WORDS)
-        return UNFIT;
+        return TALUNG_UNFIT;
     if (words[0] >= v || words[1] >= v)
-        return NO_BOARD;
+        return TALUNG_NO_BOARD;
     const uint16_t *end = words + HEAD_WORDS + length;
     if (evaluate(words + HEAD_WORDS, end, &line->allowed) != end)
-        return NO_EXPRESSION;
+        return TALUNG_NO_EXPRESSION;
     line->p = words[0];
     line->q = words[1];
     line->length = HEAD_WORDS + length;
@@ -145,15 +134,15 @@ static const uint16_t *next_kind_line(const uint16_t *words, struct kind_line *l
 static int read_header(const uint16_t *words, size_t n, struct header *h)
 {
     if (n < HEADER_WORDS)
-        return OUT_OF_RANGE;
+        return TALUNG_OUT_OF_RANGE;
     h->boards = words[0];
     h->lines = words[1];
     h->kinds = words[2];
     h->middle = words[4];
-    if (h->boards < 1 || h->boards > MOST_BOARDS || h->lines > MOST_LINES || h->kinds > MOST_KINDS)
-        return OUT_OF_RANGE;
+    if (h->boards < 1 || h->boards > TALUNG_MOST_BOARDS || h->lines > MOST_LINES || h->kinds > MOST_KINDS)
+        return TALUNG_OUT_OF_RANGE;
     if (words[3] != HEADER_WORDS || h->middle < HEADER_WORDS || h->middle > words[5] || words[5] != n)
-        return MISPLACED;
+        return TALUNG_MISPLACED;
     return 0;
 }
 
@@ -168,22 +157,22 @@ static int read_relation_lines(size_t v, size_t count, const uint16_t *words, si
             return refusal;
         at += line.length;
     }
-    return at < n ? UNFIT : 0;
+    return at < n ? TALUNG_UNFIT : 0;
 }
 
 /* Reads the kind line at the front of n words, for boards below v. */
 static int read_kind_line(size_t v, const uint16_t *words, size_t n)
 {
     if (n < HEAD_WORDS)
-        return UNFIT;
+        return TALUNG_UNFIT;
     size_t ways = words[2];
     if (ways > MOST_WAYS || ways > n - HEAD_WORDS)
-        return UNFIT;
+        return TALUNG_UNFIT;
     if (words[0] >= v)
-        return NO_BOARD;
+        return TALUNG_NO_BOARD;
     for (size_t i = 0; i < ways; i++) {
         if (words[HEAD_WORDS + i] >= v)
-            return NO_BOARD;
+            return TALUNG_NO_BOARD;
     }
     return 0;
 }
@@ -198,7 +187,7 @@ static int read_kind_lines(size_t v, size_t count, const uint16_t *words, size_t
             return refusal;
         at += HEAD_WORDS + words[at + 2];
     }
-    return at < n ? UNFIT : 0;
+    return at < n ? TALUNG_UNFIT : 0;
 }
 
 /* Reads a whole description. Answers 0 or the first refusal. */
@@ -259,7 +248,7 @@ static int spreads(size_t v, size_t count, const uint16_t *words, uint8_t *cells
             size_t y = line.ways[i];
             struck += narrow(&cells[v * line.p + y], A);
             for (size_t j = 0; j < line.count; j++)
-                struck += narrow(&cells[v * y + line.ways[j]], i == j ? FULL : S);
+                struck += narrow(&cells[v * y + line.ways[j]], i == j ? TALUNG_ANY : S);
         }
     }
     return struck;
@@ -413,10 +402,10 @@ int take(const uint16_t *words, size_t n, const uint8_t *table, size_t m, struct
     if (refusal)
         return refusal;
     if (m != h->boards * h->boards)
-        return NO_TABLE;
+        return TALUNG_NO_TABLE;
     for (size_t i = 0; i < m; i++) {
-        if (table[i] > FULL)
-            return NO_TABLE;
+        if (table[i] > TALUNG_ANY)
+            return TALUNG_NO_TABLE;
         cells[i] = table[i];
     }
     return 0;
@@ -425,14 +414,14 @@ int take(const uint16_t *words, size_t n, const uint8_t *table, size_t m, struct
 uint64_t plain_close(const uint16_t *words, size_t n, uint8_t *table, size_t m)
 {
     struct header h;
-    uint8_t cells[MOST_CELLS];
+    uint8_t cells[TALUNG_MOST_CELLS];
     int refusal = take(words, n, table, m, &h, cells);
     if (refusal)
-        return refusal;
+        return answer(refusal, 0);
     int struck = settle(&h, words, cells);
     if (struck < 0)
-        return CONTRADICTORY;
+        return answer(TALUNG_CONTRADICTORY, 0);
     for (size_t i = 0; i < m; i++)
         table[i] = cells[i];
-    return 256 * (uint64_t)struck;
+    return answer(TALUNG_OK, struck);
 }

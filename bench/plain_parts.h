@@ -4,11 +4,11 @@
 
 #include "plain.h"
 
-enum {
-    FULL = 15,
-    MOST_BOARDS = 16,
-    MOST_CELLS = MOST_BOARDS * MOST_BOARDS
-};
+/* An answer of this number and count. */
+static inline uint64_t answer(uint32_t number, uint32_t count)
+{
+    return number + 4294967296u * (uint64_t)count;
+}
 
 struct header {
     size_t boards;

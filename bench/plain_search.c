@@ -1,16 +1,9 @@
 /* The search in plain C, by the product's method: the same tries in the same order, and one table to go back to, not one for each choice. */
 #include "plain_parts.h"
 
-/* What the search answers besides refusals of a description or a table. */
-enum {
-    FOUND = 0,
-    NONE = 8,
-    SPENT = 9
-};
-
 enum {
     RELATIONS = 4,
-    MOST_PLACES = MOST_BOARDS * (MOST_BOARDS - 1) / 2
+    MOST_PLACES = TALUNG_MOST_BOARDS * (TALUNG_MOST_BOARDS - 1) / 2
 };
 
 /* A pair of boards p < q, and how many such pairs come before it. After the last place comes one whose q is the number of boards. */
@@ -26,8 +19,8 @@ struct state {
     const struct header *header;
     const uint16_t *words;
     const uint8_t *order;
-    uint8_t first[MOST_CELLS];
-    uint8_t cells[MOST_CELLS];
+    uint8_t first[TALUNG_MOST_CELLS];
+    uint8_t cells[TALUNG_MOST_CELLS];
     uint8_t choices[MOST_PLACES];
 };
 
@@ -113,11 +106,6 @@ static void rebuild(struct state *s, struct place to)
         s->cells[v * at.p + at.q] = pick(s->order, s->choices[at.index]);
 }
 
-static uint64_t answer(unsigned number, uint32_t count)
-{
-    return number + 256 * (uint64_t)count;
-}
-
 /* Searches inside the table at hand, which is the first one. After success it is the arrangement. */
 static uint64_t search(struct state *s, uint32_t budget)
 {
@@ -126,17 +114,17 @@ static uint64_t search(struct state *s, uint32_t budget)
     struct place at = onward(s, start);
     while (at.q < v) {
         if (tries == budget)
-            return answer(SPENT, budget);
+            return answer(TALUNG_RAN_OUT, budget);
         tries++;
         if (try_at(s, at)) {
             at = onward(s, next_place(v, at));
             continue;
         }
         if (!back(s, &at))
-            return answer(NONE, tries);
+            return answer(TALUNG_NOWHERE, tries);
         rebuild(s, at);
     }
-    return answer(FOUND, tries);
+    return answer(TALUNG_OK, tries);
 }
 
 uint64_t plain_search(const uint16_t *words, size_t n, uint8_t *table, size_t m, uint32_t budget)
@@ -146,16 +134,16 @@ uint64_t plain_search(const uint16_t *words, size_t n, uint8_t *table, size_t m,
     struct state s;
     int refusal = take(words, n, table, m, &h, s.first);
     if (refusal)
-        return refusal;
+        return answer(refusal, 0);
     if (settle(&h, words, s.first) < 0)
-        return answer(NONE, 0);
+        return answer(TALUNG_NOWHERE, 0);
     s.header = &h;
     s.words = words;
     s.order = order;
     for (size_t i = 0; i < m; i++)
         s.cells[i] = s.first[i];
     uint64_t found = search(&s, budget);
-    if (found % 256 == FOUND) {
+    if (talung_number(found) == TALUNG_OK) {
         for (size_t i = 0; i < m; i++)
             table[i] = s.cells[i];
     }

@@ -1,34 +1,23 @@
 #!/bin/sh
 # Measures the product's closing and search beside plain C versions of the same methods, and compares all that they answer.
-# It needs target/staticlib/libtalung.a, which 'rt staticlib talung' makes; what it builds itself goes to target/bench/.
-# Everything is compiled and linked for x86-64 with the tools of the Rattle kit. On another kind of machine the program runs under the kit's emulator, and
-# its times say nothing.
+# It needs dist/, which 'make lib' fills; what it builds itself goes to target/bench/. On another kind of machine than x86-64 its times say nothing.
 # Where code lies in memory can change a time by a sixth. So the program is linked four times, with the code of both versions moved on by 16 bytes each
 # time: the times shown are averages over the four, and the ratio is their geometric mean.
 # Exit status: 0 measured; 1 the answers or tables differ, or a sheet is not answered as its group says; 2 something could not be built.
 set -eu
 
-die() { printf 'bench: %s\n' "$*" >&2; exit 2; }
-
 cd "$(dirname "$0")/.."
-library=target/staticlib/libtalung.a
-[ -f "$library" ] || die "no $library: run 'rt staticlib talung' first"
-
-rt=$(command -v rt) || die "no rt on the path"
-kit=${RATTLE_HOME:-$(dirname "$(readlink -f "$rt")")/..}
-own=$kit/on/$(uname -m)
-tools=$own/toolchain
-[ -x "$tools/bin/clang" ] || die "the kit has no compiler for this machine"
-emulator=$tools/bin/qemu-x86_64
-[ -x "$emulator" ] || emulator=''
+. tools/kit.sh
+library=dist/libtalung.a
+[ -f "$library" ] || die "no $library: run 'make lib' first"
 
 built=target/bench
 mkdir -p "$built"
 
 compile() { # FILE OBJECT WORDS...
-    file=$1 object=$2
+    file=bench/$1 object=$built/$2
     shift 2
-    "$tools/bin/clang" --target=x86_64-linux-gnu -march=x86-64 -std=c11 -Wall -Wextra "$@" -c "bench/$file" -o "$built/$object" || die "$file does not compile"
+    compile_c "$file" "$object" -std=c11 -I dist "$@"
 }
 
 compile plain.c plain.o -O3
@@ -41,12 +30,9 @@ compile driver.c driver.o -O2
 for shift in 0 16 32 48; do
     compile shift.S shift.o "-DSHIFT=$shift"
     program=$built/bench-$shift
-    "$own/bin/rattle-link" --target x86_64-unknown-linux-gnu --toolchain "$tools" -o "$program" "$built/driver.o" "$built/sheets.o" "$built/searches.o" \
-        "$built/sites.o" "$built/shift.o" "$built/plain.o" "$built/plain_search.o" "$library" 2>"$built/link.log" || {
-        cat "$built/link.log" >&2
-        die "the program does not link"
-    }
-    ${emulator:+"$emulator"} "$tools/lib/ld-linux-x86-64.so.2" --library-path "$tools/lib" "$program" >"$built/times-$shift" || {
+    link_program "$program" "$built/driver.o" "$built/sheets.o" "$built/searches.o" "$built/sites.o" "$built/shift.o" "$built/plain.o" \
+        "$built/plain_search.o" "$library"
+    run_program "$program" >"$built/times-$shift" || {
         status=$?
         cat "$built/times-$shift" >&2
         exit "$status"

@@ -2,12 +2,6 @@
 #include "sheets.h"
 #include "sites.h"
 
-/* What the search must answer. */
-enum {
-    NONE = 8,
-    SPENT = 9
-};
-
 /* The most tries that a sheet takes which is redrawn until it suits. */
 enum { MOST_TRIES = 256 };
 
@@ -57,14 +51,14 @@ static int fails_after(const struct sheet *s, size_t least, size_t most)
 {
     uint8_t table[MOST_TABLE];
     uint64_t answer = search(s, most, table);
-    return answer % 256 == NONE && answer / 256 >= least;
+    return talung_number(answer) == TALUNG_NOWHERE && talung_count(answer) >= least;
 }
 
 /* Whether more tries are needed than these. */
 static int outlasts(const struct sheet *s, size_t tries)
 {
     uint8_t table[MOST_TABLE];
-    return search(s, tries, table) % 256 == SPENT;
+    return talung_number(search(s, tries, table)) == TALUNG_RAN_OUT;
 }
 
 /* How many tries lead straight to an arrangement, which the search finds. */
@@ -91,7 +85,7 @@ static int finds_after(const struct sheet *s, size_t vain)
 {
     uint8_t table[MOST_TABLE];
     uint64_t answer = search(s, MOST_TRIES, table);
-    return answer % 256 == 0 && answer / 256 >= straight_tries(s, table) + vain;
+    return talung_number(answer) == TALUNG_OK && talung_count(answer) >= straight_tries(s, table) + vain;
 }
 
 /* ---- sheets that have an arrangement */
@@ -175,7 +169,7 @@ static void make_none(struct sheet *s, size_t boards, size_t kind)
     case 2: make_dead_end(s, boards, 0, boards); break;
     default: make_dead_end(s, boards, 1, 1); break;
     }
-    s->number = NONE;
+    s->number = TALUNG_NOWHERE;
 }
 
 /* More tries than the budget, since what has no arrangement are the last six boards alone. */
@@ -186,7 +180,7 @@ static void make_spent(struct sheet *s, size_t boards, size_t kind)
         begin(s, boards);
         add_pairs(s, boards - 6, 10);
     } while (!outlasts(s, s->budget));
-    s->number = SPENT;
+    s->number = TALUNG_RAN_OUT;
 }
 
 /* ---- the groups */

@@ -152,8 +152,8 @@ static void make_contradictory(struct sheet *s, size_t kind)
         else
             make_failed_try(s);
     } while (!clashes(s));
-    s->number = 7;
-    for (size_t k = 0; k < MOST_CELLS; k++)
+    s->number = TALUNG_CONTRADICTORY;
+    for (size_t k = 0; k < TALUNG_MOST_CELLS; k++)
         s->site[k] = 0;
 }
 

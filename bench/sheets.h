@@ -5,10 +5,7 @@
 #include "plain.h"
 
 enum {
-    MOST_BOARDS = 16,
-    MOST_CELLS = 256,
     MOST_TABLE = 320,
-    LONGEST = 2486,
     MOST_SHEETS = 48,
     BUDGET = 10000,
     CLOSED_GROUPS = 8,
@@ -18,13 +15,13 @@ enum {
 /* A description, the table and the budget lent with it, and the number that must be answered. Where the description was taken off a site, the site's
    relation for each cell, which the closed table must still have, and which no arrangement found may come after; else zeros. */
 struct sheet {
-    uint16_t words[LONGEST];
+    uint16_t words[TALUNG_MOST_WORDS];
     size_t n;
     uint8_t table[MOST_TABLE];
     size_t m;
     uint32_t budget;
     uint8_t number;
-    uint8_t site[MOST_CELLS];
+    uint8_t site[TALUNG_MOST_CELLS];
 };
 
 /* What is done with the sheets of a group. */

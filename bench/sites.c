@@ -133,7 +133,7 @@ void begin(struct sheet *s, size_t boards)
     s->number = 0;
     for (size_t k = 0; k < MOST_TABLE; k++)
         s->table[k] = 15;
-    for (size_t k = 0; k < MOST_CELLS; k++)
+    for (size_t k = 0; k < TALUNG_MOST_CELLS; k++)
         s->site[k] = 0;
 }
 

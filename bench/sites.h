@@ -12,9 +12,9 @@ enum { UNION = 4, INTERSECTION = 5, COMPLEMENT = 6, INVERSE = 7 };
 struct site {
     size_t boards;
     size_t places;
-    int above[MOST_BOARDS];
-    uint16_t code[MOST_BOARDS];
-    size_t place[MOST_BOARDS];
+    int above[TALUNG_MOST_BOARDS];
+    uint16_t code[TALUNG_MOST_BOARDS];
+    size_t place[TALUNG_MOST_BOARDS];
 };
 
 /* Numbers drawn in an order that the seed fixes. */

@@ -24,8 +24,8 @@ use Rattle.rules.proofs.Largest.{closing-largest}
 use Rattle.rules.proofs.Arrangements.{arrangement-kept, arrangement-whole}
 use Rattle.rules.proofs.Calls.{given-refused, given-no-table, given-good, arranged-arrangement}
 use Rattle.passes.specs.Passes.{Ready}
-use Rattle.closing.specs.declared.sweeps.Swept.{Swept}
-use Rattle.closing.specs.declared.sweeps.Swept.the-variants.{Struck, Emptied}
+use Rattle.sweeps.specs.declared.Swept.{Swept}
+use Rattle.sweeps.specs.declared.Swept.the-variants.{Struck, Emptied}
 use Rattle.closing.specs.Closes.{Closes, closes}
 
 -- ---- single cells

@@ -10,9 +10,9 @@ ghost use Rattle.sheet.specs.declared.header.HeaderFound.the-variants.{Good};
 ghost use Rattle.sheet.specs.Found.{descriptionFound};
 ghost use Rattle.closing.specs.Closes.{Working};
 use answers::Answer;
-use closing::sweeps::Swept;
 use sheet::header::Header;
 use sheet::header::HeaderFound;
+use sweeps::Swept;
 
 // The refusal of a check: the table is no arrangement.
 pub const NO_ARRANGEMENT: u8 = 10;

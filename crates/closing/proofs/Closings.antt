@@ -23,9 +23,9 @@ use Rattle.rules.proofs.Largest.{closing-largest, largest-unique}
 use Rattle.rules.proofs.Calls.{given-refused, given-no-table, given-good}
 use Rattle.passes.specs.Passes.{Ready, Idles, Once, Clash}
 use Rattle.passes.proofs.Passes.{kept-start, once-then, once-from}
-use Rattle.closing.specs.declared.sweeps.Swept.{Swept}
-use Rattle.closing.specs.declared.sweeps.Swept.the-variants.{Struck, Emptied}
-use Rattle.closing.specs.Sweeps.{moving, Settled, settling}
+use Rattle.sweeps.specs.declared.Swept.{Swept}
+use Rattle.sweeps.specs.declared.Swept.the-variants.{Struck, Emptied}
+use Rattle.closing.specs.Rounds.{moving, Settled, settling}
 use Rattle.closing.specs.Closes.{staying, Closes, closes}
 
 -- ---- the rules whose bounds stay, and those whose bounds depend on the table

@@ -10,8 +10,8 @@ use Rattle.rules.specs.Closing.{closing}
 use Rattle.rules.proofs.Largest.{closing-largest, largest-unique}
 use Rattle.answers.specs.declared.Answer.{Answer}
 use Rattle.answers.proofs.Outcomes.{outcome-determined}
-use Rattle.closing.specs.declared.sweeps.Swept.{Swept}
-use Rattle.closing.specs.declared.sweeps.Swept.the-variants.{Struck, Emptied}
+use Rattle.sweeps.specs.declared.Swept.{Swept}
+use Rattle.sweeps.specs.declared.Swept.the-variants.{Struck, Emptied}
 use Rattle.closing.specs.Closes.{Closes, closes, ClosesUnder}
 use Rattle.closing.specs.Runs.{Closing}
 

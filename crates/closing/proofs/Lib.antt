@@ -1,9 +1,5 @@
 -- The laws behind the functions of this crate, and what its one call is shown to do.
 pub mod Settling
-pub mod Sweeping
-pub mod Spreading
-pub mod Feeding
-pub mod Twinning
 pub mod Passing
 pub mod Closings
 pub mod Determined

@@ -18,15 +18,15 @@ use Rattle.rules.proofs.Expressions.{expression-ends}
 use Rattle.rules.proofs.Readings.{never, next-out}
 use Rattle.rules.proofs.Lines.{relation-out, relation-suffix, OnPanel, kind-front, kind-read, kind-out, kind-suffix, after-line, boardsOnly-out}
 use Rattle.rules.proofs.Walks.{Walk, walk-start, walk-none, walk-next, walk-passed, walk-lines, walk-refused}
-use Rattle.sheet.specs.declared.refusals.Refusal.{Refusal}
-use Rattle.sheet.specs.declared.lines.RelationLine as declared
-use Rattle.sheet.specs.declared.lines.KindLine as declared-kind
-use Rattle.sheet.specs.declared.lines.RelationFound.the-variants.{Line, Refused}
-use Rattle.sheet.specs.Found.{relationFound, kindFront}
-use Rattle.sheet.proofs.Fronts.{relation-refused-out}
+use Rattle.lines.specs.declared.refusals.Refusal.{Refusal}
+use Rattle.lines.specs.declared.RelationLine as declared
+use Rattle.lines.specs.declared.KindLine as declared-kind
+use Rattle.lines.specs.declared.RelationFound.the-variants.{Line, Refused}
+use Rattle.lines.specs.Found.{relationFound, kindFront}
+use Rattle.lines.proofs.Fronts.{relation-refused-out}
 use Rattle.passes.specs.Passes.{Narrowed, Ready, Pass, Quiet, Once}
 use Rattle.passes.proofs.Passes.{pass-from, pass-start, pass-more, once-from, once-start, once-more, once-strike, ready-place}
-use Rattle.closing.specs.Panels.{panel, Below}
+use Rattle.lines.specs.Panels.{panel, Below}
 use Rattle.closing.specs.Lines.{HasKinds}
 
 -- rule 6 for a kind line and every board, which does not look at the code

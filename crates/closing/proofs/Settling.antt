@@ -8,11 +8,8 @@ use Rattle.rules.specs.Closing.{Rule, Idle}
 use Rattle.rules.proofs.Members.{All, all-append, append-left, append-right}
 use Rattle.passes.specs.Passes.{Filled, Ready, Kept, Pass, Quiet, Sound, Clash}
 use Rattle.passes.proofs.Passes.{kept-then, kept-as, kept-from, kept-tight, pass-then, pass-from}
-use Rattle.closing.specs.Sweeps.{Settled}
-
--- whoever finds each of these rules sound has seen that no cell is empty
-abbrev pub Sees : ℕ → List Rule → Type 0
-Sees v rs = (t : List ℕ) → Table v t → All (Sound v t) rs → Filled t
+use Rattle.sweeps.proofs.Sweeping.{Sees}
+use Rattle.closing.specs.Rounds.{Settled}
 
 module _ {v : ℕ} where
   sound-quiet : {rs : List Rule} {t w : List ℕ} {a b : ℕ} → Pass (Sound v) v rs t a w b → Pass (Quiet v) v rs t a w b

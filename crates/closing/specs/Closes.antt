@@ -9,8 +9,8 @@ use Rattle.rules.specs.Tables.{Inside, emptied, total}
 use Rattle.rules.specs.Closed.{Largest}
 use Rattle.rules.specs.Closing.{Rule, rules1, rules4, rules5, closing}
 use Rattle.passes.specs.Passes.{Filled, Idles}
-use Rattle.closing.specs.declared.sweeps.Swept.{Swept}
-use Rattle.closing.specs.declared.sweeps.Swept.the-variants.{Struck, Emptied}
+use Rattle.sweeps.specs.declared.Swept.{Swept}
+use Rattle.sweeps.specs.declared.Swept.the-variants.{Struck, Emptied}
 
 -- the rules whose bounds stay, whatever the table
 abbrev pub staying : Sheet → List Rule

@@ -1,6 +1,5 @@
--- What the functions of this crate promise each other.
-pub mod Sweeps
-pub mod Panels
+-- What the functions of this crate promise.
+pub mod Rounds
 pub mod Lines
 pub mod Closes
 pub mod Runs

@@ -1,9 +1,6 @@
 // Closing a table: the largest closed table inside it.
-mod lines;
-mod panels;
 mod rounds;
-pub mod sweeps;
-mod twins;
+mod walks;
 
 ghost use mathlib.Core.Path.{_≡_};
 ghost use Rattle.rules.specs.Calls.{close};
@@ -12,10 +9,10 @@ ghost use Rattle.sheet.specs.declared.header.HeaderFound.the-variants.{Good};
 ghost use Rattle.sheet.specs.Found.{descriptionFound};
 ghost use Rattle.passes.specs.Passes.{Ready};
 ghost use Rattle.closing.specs.Closes.{ClosesUnder, Steady, Working};
-use crate::sweeps::Swept;
 use answers::Answer;
 use sheet::header::Header;
 use sheet::header::HeaderFound;
+use sweeps::Swept;
 
 // The refusal of a closing: the largest closed table has an empty cell.
 pub const CONTRADICTORY: u8 = 7;
@@ -28,8 +25,8 @@ pub fn settle(h: Header, words: &[u16], cells: &mut [u8]) -> Swept
     let v = h.boards;
     let middle = h.middle;
     let mut struck = sweeps::diagonal(v, cells);
-    struck += lines::relation_lines(v, h.lines, &words[sheet::header::WORDS..middle], cells);
-    struck += lines::spreads(v, h.kinds, &words[middle..], cells);
+    struck += walks::relation_lines(v, h.lines, &words[sheet::header::WORDS..middle], cells);
+    struck += walks::spreads(v, h.kinds, &words[middle..], cells);
     let Swept::Struck(more) = rounds::rounds(v, h.kinds, &words[middle..], cells) else {
         return Swept::Emptied;
     };

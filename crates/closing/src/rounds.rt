@@ -1,12 +1,12 @@
 // Rounds of the rules whose bounds depend on the table, until a round strikes nothing.
 ghost use Rattle.passes.specs.Passes.{Ready};
 ghost use Rattle.closing.specs.Lines.{HasKinds, WithKinds};
-ghost use Rattle.closing.specs.Sweeps.{moving, settling};
-use crate::lines::panels;
-use crate::lines::twins;
-use crate::sweeps::Swept;
-use crate::sweeps::sweep;
-use crate::sweeps::turn;
+ghost use Rattle.closing.specs.Rounds.{moving, settling};
+use crate::walks::panels;
+use crate::walks::twins;
+use sweeps::Swept;
+use sweeps::sweep;
+use sweeps::turn;
 
 // As many kind lines as this stand in the words.
 pub(crate) fn rounds(v: usize, count: usize, words: &[u16], cells: &mut [u8]) -> Swept

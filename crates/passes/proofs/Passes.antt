@@ -12,7 +12,7 @@ use Rattle.rules.specs.Tables.{Table, narrowed, emptied, total, range, upTo}
 use Rattle.rules.specs.Closing.{Rule, Idle, lies}
 use Rattle.rules.proofs.Sets.{⊆-refl, ⊆-trans, meet-left, size-mono, ⊆-one}
 use Rattle.rules.proofs.Members.{All, all-none, all-one, one-all, all-append, append-left, append-right}
-use Rattle.rules.proofs.Inside.{in-range, inside-refl, inside-trans, total-mono, total-tight, emptied-in, emptied-inside}
+use Rattle.rules.proofs.Inside.{in-range, inside-refl, inside-trans, inside-antisym, total-mono, total-tight, emptied-in, emptied-inside}
 use Rattle.rules.proofs.Strikes.{strike-table, strike-inside, strike-keeps, strike-within, strike-idle, strike-total}
 use Rattle.rules.proofs.Rules.{Grows}
 use Rattle.rules.proofs.Calls.{total-most}
@@ -193,6 +193,20 @@ module _ {v : ℕ} where
             λ x i.
             all-one (Idle v x) (⊆-trans (i .each (v * p + q)) (subst (λ (y : List ℕ). getD y (v * p + q) 0 ⊆ b) (sym (m .cells)) (strike-within t (v * p + q) b)));
       }
+
+  -- ---- what is determined
+
+  -- how many were struck is fixed by what is left
+  pub kept-determined : {rs : List Rule} {t w : List ℕ} {a b c : ℕ} → Kept v rs t a w b → Kept v rs t a w c → b ≡ c
+  kept-determined f g = let i = f .counted in let j = g .counted in omega arith
+
+  -- by bounds that stay, what is left is fixed too: the largest table inside t in which the rules strike nothing
+  pub once-determined : {rs : List Rule} {t u w : List ℕ} {a b c : ℕ} → Once v rs t a u b → Once v rs t a w c → (u ≡ w) × (b ≡ c)
+  once-determined {rs} {t} {u} {w} {a} {b} {c} f g =
+      let e : u ≡ w =
+      inside-antisym (f .kept .table) (g .kept .table) (g .kept .keeps u (f .kept .inside) (f .held u (inside-refl u)))
+      (f .kept .keeps w (g .kept .inside) (g .held w (inside-refl w))) in
+      (e, kept-determined (subst (λ (x : List ℕ). Kept v rs t a x b) e (f .kept)) (g .kept))
 
   -- ---- a site that is not too large: its places, its counts
 

@@ -17,16 +17,17 @@ use Rattle.rules.proofs.Largest.{closing-largest, largest-unique}
 use Rattle.rules.proofs.Search.{cap-in}
 use Rattle.rules.proofs.Calls.{given-refused, given-no-table, given-good}
 use Rattle.passes.specs.Passes.{Filled, Ready}
-use Rattle.closing.specs.declared.sweeps.Swept.{Swept}
-use Rattle.closing.specs.declared.sweeps.Swept.the-variants.{Struck, Emptied}
+use Rattle.sweeps.specs.declared.Swept.{Swept}
+use Rattle.sweeps.specs.declared.Swept.the-variants.{Struck, Emptied}
 use Rattle.closing.specs.Closes.{Closes, closes}
-use Rattle.search.specs.declared.Ended.{Ended}
-use Rattle.search.specs.declared.Ended.the-variants.{Arranged, Nowhere, RanOut}
-use Rattle.search.specs.Choices.{Bytes}
-use Rattle.search.specs.Hunts.{Whole}
-use Rattle.search.specs.Tries.{concluded, mostPairs, ends}
-use Rattle.search.proofs.Walking.{pairs-most}
-use Rattle.search.proofs.Resuming.{proceed-none, proceed-on}
+use Rattle.tries.specs.declared.Ended.{Ended}
+use Rattle.tries.specs.declared.Ended.the-variants.{Arranged, Nowhere, RanOut}
+use Rattle.tries.specs.Choices.{Bytes}
+use Rattle.tries.specs.Hunts.{Whole}
+use Rattle.tries.specs.Tries.{mostPairs, ends}
+use Rattle.search.specs.Rooms.{concluded}
+use Rattle.tries.proofs.Walking.{pairs-most}
+use Rattle.tries.proofs.Resuming.{proceed-none, proceed-on}
 
 module _ (ord ws t : List ℕ) (b : ℕ) where
   after : Sheet → Outcome

@@ -1,6 +1,3 @@
--- What the functions of this crate promise each other.
-pub mod Pairs
-pub mod Choices
-pub mod Hunts
-pub mod Tries
+-- What the functions of this crate promise, and calls of the search.
+pub mod Rooms
 pub mod Runs

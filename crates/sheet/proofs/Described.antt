@@ -8,10 +8,11 @@ use Rattle.rules.specs.Descriptions.{mostBoards, RelationLine, KindLine, Sheet,
 use Rattle.rules.proofs.Tests.{clash, true-T}
 use Rattle.rules.proofs.Parts.{tail}
 use Rattle.rules.proofs.Headers.{numbers-out, places-out}
-use Rattle.sheet.specs.declared.refusals.Refusal.{Refusal}
+use Rattle.lines.specs.declared.refusals.Refusal.{Refusal}
 use Rattle.sheet.specs.declared.header.Header.{Header}
 use Rattle.sheet.specs.declared.header.HeaderFound.the-variants.{Good, Refused}
-use Rattle.sheet.specs.Found.{refusal, numbers, numbersFound, descriptionFound}
+use Rattle.lines.specs.Found.{refusal}
+use Rattle.sheet.specs.Found.{numbers, numbersFound, descriptionFound}
 
 -- the words mean s, and its header is h
 pub record Described (ws : List ℕ) (h : Header) (s : Sheet) : Type 0 where

@@ -7,9 +7,10 @@ use lib.ListN.{length, take, drop}
 use Rattle.rules.specs.Descriptions.{Reading, good, refused, Front, section}
 use Rattle.rules.proofs.Parts.{Suffix, tail}
 use Rattle.rules.proofs.Walks.{Walk, walk-refused, walk-next, walk-over, walk-filled}
-use Rattle.sheet.specs.declared.refusals.Refusal.{Refusal}
+use Rattle.lines.specs.declared.refusals.Refusal.{Refusal}
 use Rattle.sheet.specs.declared.sections.SectionFound.the-variants.{Filled, Refused}
-use Rattle.sheet.specs.Found.{refusal, sectionFound, endFound}
+use Rattle.lines.specs.Found.{refusal}
+use Rattle.sheet.specs.Found.{sectionFound, endFound}
 
 -- a section after its last line
 pub end-over : (n : ℕ) → 0 < n → Refused (refusal 3) ≡ endFound n

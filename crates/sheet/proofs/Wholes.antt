@@ -10,12 +10,13 @@ use Rattle.rules.proofs.Tests.{clash, true-T}
 use Rattle.rules.proofs.Parts.{tail}
 use Rattle.rules.proofs.Readings.{need-passed, need-failed}
 use Rattle.rules.proofs.Headers.{InRange, Placed, numbers-in, numbers-out, places-in, places-out}
-use Rattle.sheet.specs.declared.refusals.Refusal.{Refusal}
+use Rattle.lines.specs.declared.refusals.Refusal.{Refusal}
 use Rattle.sheet.specs.declared.header.Header.{Header}
 use Rattle.sheet.specs.declared.header.HeaderFound.the-variants.{Good, Refused}
 use Rattle.sheet.specs.declared.sections.SectionFound.{SectionFound}
 use Rattle.sheet.specs.declared.sections.SectionFound.the-variants as sections
-use Rattle.sheet.specs.Found.{refusal, sectionFound, numbers, numbersFound, headerFound, descriptionFound}
+use Rattle.lines.specs.Found.{refusal}
+use Rattle.sheet.specs.Found.{sectionFound, numbers, numbersFound, headerFound, descriptionFound}
 use Rattle.sheet.proofs.Described.{described, undescribed}
 
 -- ---- the header

@@ -1,10 +1,10 @@
 // The header of a description.
 ghost use mathlib.Core.Path.{_≡_};
 ghost use Rattle.sheet.specs.Found.{headerFound};
-use crate::refusals::MISPLACED;
-use crate::refusals::OUT_OF_RANGE;
-use crate::refusals::Refusal;
-use crate::words::wide;
+use expressions::words::wide;
+use lines::refusals::MISPLACED;
+use lines::refusals::OUT_OF_RANGE;
+use lines::refusals::Refusal;
 
 // The numbers of boards, relation lines and kind lines, and where the kind lines begin.
 pub struct Header {

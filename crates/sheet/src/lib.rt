@@ -1,10 +1,6 @@
 // Descriptions: a lent run of 16-bit words, header, relation lines and kind lines.
-mod expressions;
 pub mod header;
-pub mod lines;
-pub mod refusals;
 mod sections;
-mod words;
 
 ghost use mathlib.Core.Path.{_≡_};
 ghost use Rattle.rules.specs.Calls.{reading};

@@ -2,10 +2,10 @@
 ghost use mathlib.Core.Path.{_≡_};
 ghost use Rattle.rules.specs.Descriptions.{relationLine, kindLine, section};
 ghost use Rattle.sheet.specs.Found.{sectionFound, endFound};
-use crate::lines::KindFound;
-use crate::lines::RelationFound;
-use crate::refusals::Refusal;
-use crate::refusals::UNFIT;
+use lines::KindFound;
+use lines::RelationFound;
+use lines::refusals::Refusal;
+use lines::refusals::UNFIT;
 
 // A section that its lines fill, or the first refusal in it.
 pub(crate) enum SectionFound {
@@ -31,7 +31,7 @@ pub(crate) fn relation_lines(v: usize, count: usize, words: &[u16]) -> SectionFo
     let mut at = 0;
     let mut left = count;
     while 0 < left {
-        let rest = match crate::lines::relation_line(v, &words[at..]) {
+        let rest = match lines::relation_line(v, &words[at..]) {
             RelationFound::Line(_, rest) => rest,
             RelationFound::Refused(r) => return SectionFound::Refused(r),
         };
@@ -48,7 +48,7 @@ pub(crate) fn kind_lines(v: usize, count: usize, words: &[u16]) -> SectionFound
     let mut at = 0;
     let mut left = count;
     while 0 < left {
-        let rest = match crate::lines::kind_line(v, &words[at..]) {
+        let rest = match lines::kind_line(v, &words[at..]) {
             KindFound::Line(_, rest) => rest,
             KindFound::Refused(r) => return SectionFound::Refused(r),
         };

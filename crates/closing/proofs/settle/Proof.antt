@@ -11,7 +11,7 @@ use Rattle.rules.specs.Closing.{closing}
 use Rattle.passes.specs.Passes.{mostMembers}
 use Rattle.passes.proofs.Passes.{kept-few, kept-then, kept-from, ready-kept}
 use Rattle.sheet.proofs.Described.{described}
-use Rattle.closing.specs.Sweeps.{moving, settling}
+use Rattle.closing.specs.Rounds.{moving, settling}
 use Rattle.closing.proofs.Closings.{closes-under, closes-after, clash-after}
 use borrow.Author.Needs.{needs}
 use Rattle.closing.proofs.settle.Statement.{statement}

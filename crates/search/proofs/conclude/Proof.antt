@@ -1,7 +1,7 @@
 -- `conclude` meets its contract: each way to end is one of its cases. Assumes nothing.
 use mathlib.Core.Path.{sym, ap, _∙_}
 use Rattle.rules.specs.Calls.{succeed}
-use Rattle.search.specs.Tries.{concluded}
+use Rattle.search.specs.Rooms.{concluded}
 use borrow.Author.Needs.{needs}
 use Rattle.search.proofs.conclude.Statement.{statement}
 use Rattle.search.proofs.conclude.Tie as tie

@@ -1,8 +1,6 @@
--- `talung_close` meets its contract: it packs the answer of the call. Assumes nothing.
-use mathlib.Core.Path.{ap, _∙_}
-use Rattle.rules.specs.Calls.{Outcome}
-use Rattle.talung.specs.Packed.{packed}
+-- `talung_close` meets its contract: it packs the answer of `close`. Assumes nothing.
 use borrow.Author.Needs.{needs}
+use Rattle.talung.proofs.Packing.{packs}
 use Rattle.talung.proofs.talung_close.Statement.{statement}
 use Rattle.talung.proofs.talung_close.Tie as tie
 
@@ -16,12 +14,7 @@ same-length : tie.Need-same-length
 same-length c = search needs
 
 returns : tie.Need-returns
-returns c =
-    let is = c .before .before .before .close .ensures in
-    record {
-      answer = c .pack .ensures ∙ ap (λ (o : Outcome). packed (o .number) (o .count)) is;
-      table = ap (λ (o : Outcome). o .table) is;
-    }
+returns c = packs _ _ _ _ (c .pack .ensures) (c .before .before .before .close .ensures)
 
 pub talung-close-spec : {M : Type 1} → statement M
 talung-close-spec = tie.close (tie.spec close-requires pack-requires same-length returns)

@@ -1,8 +1,6 @@
--- `talung_search` meets its contract: it packs the answer of the call. Assumes nothing.
-use mathlib.Core.Path.{ap, _∙_}
-use Rattle.rules.specs.Calls.{Outcome}
-use Rattle.talung.specs.Packed.{packed}
+-- `talung_search` meets its contract: it packs the answer of `search`. Assumes nothing.
 use borrow.Author.Needs.{needs}
+use Rattle.talung.proofs.Packing.{packs}
 use Rattle.talung.proofs.talung_search.Statement.{statement}
 use Rattle.talung.proofs.talung_search.Tie as tie
 
@@ -16,12 +14,7 @@ same-length : tie.Need-same-length
 same-length c = search needs
 
 returns : tie.Need-returns
-returns c =
-    let is = c .before .before .before .search .ensures in
-    record {
-      answer = c .pack .ensures ∙ ap (λ (o : Outcome). packed (o .number) (o .count)) is;
-      table = ap (λ (o : Outcome). o .table) is;
-    }
+returns c = packs _ _ _ _ (c .pack .ensures) (c .before .before .before .search .ensures)
 
 pub talung-search-spec : {M : Type 1} → statement M
 talung-search-spec = tie.close (tie.spec search-requires pack-requires same-length returns)

@@ -8,9 +8,10 @@ use Rattle.rules.specs.Closing.{rules2, rules3, rules6, rules7}
 use Rattle.passes.specs.Passes.{Kept}
 use Rattle.passes.proofs.Passes.{kept-start, kept-few, ready-kept}
 use Rattle.closing.specs.Lines.{WithKinds}
-use Rattle.closing.specs.Sweeps.{sweeping, moving}
+use Rattle.sweeps.specs.Sweeps.{sweeping}
+use Rattle.closing.specs.Rounds.{moving}
 use Rattle.closing.proofs.Settling.{round, round-again, round-settled, round-clash}
-use Rattle.closing.proofs.Sweeping.{threes-see}
+use Rattle.sweeps.proofs.Sweeping.{threes-see}
 use Rattle.closing.proofs.rounds.rounds.Statement.{statement}
 use Rattle.closing.proofs.rounds.rounds.Tie as tie
 

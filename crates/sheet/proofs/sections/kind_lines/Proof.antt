@@ -5,7 +5,7 @@ use mathlib.Core.Path.{sym, _∙_}
 use native.Mathlib.Omega.{arith}
 use Rattle.rules.specs.Descriptions.{kindLine}
 use Rattle.rules.proofs.Lines.{kind-suffix}
-use Rattle.sheet.proofs.Fronts.{kind-line-out, kind-refused-out}
+use Rattle.lines.proofs.Fronts.{kind-line-out, kind-refused-out}
 use Rattle.rules.proofs.Walks.{Walk, walk-start}
 use Rattle.sheet.proofs.Filled.{found-refused, found-next, found-end}
 use Rattle.sheet.proofs.sections.kind_lines.Statement.{statement}

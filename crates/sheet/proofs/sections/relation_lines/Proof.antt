@@ -5,7 +5,7 @@ use mathlib.Core.Path.{sym, _∙_}
 use native.Mathlib.Omega.{arith}
 use Rattle.rules.specs.Descriptions.{relationLine}
 use Rattle.rules.proofs.Lines.{relation-suffix}
-use Rattle.sheet.proofs.Fronts.{relation-line-out, relation-refused-out}
+use Rattle.lines.proofs.Fronts.{relation-line-out, relation-refused-out}
 use Rattle.rules.proofs.Walks.{Walk, walk-start}
 use Rattle.sheet.proofs.Filled.{found-refused, found-next, found-end}
 use Rattle.sheet.proofs.sections.relation_lines.Statement.{statement}

@@ -1,0 +1,66 @@
+// The rules that look at boards alone: each board, each pair of boards from both sides, each three boards.
+ghost use Rattle.rules.specs.Closing.{rules1, rules2, rules3};
+ghost use Rattle.passes.specs.Passes.{Ready, Pass, Quiet, Once};
+ghost use Rattle.sweeps.specs.Sweeps.{sweeping};
+
+// How many relations a sweep struck, or that it came to an empty cell and was left there.
+pub enum Swept {
+    Struck(u32),
+    Emptied,
+}
+
+// Each board is the same as itself.
+pub fn diagonal(v: usize, cells: &mut [u8]) -> u32
+    requires { ⌜ Ready v (now cells) ⌝ }
+    ensures { λ n. ⌜ Once v (rules1 v) (now (cells .entry)) 0 (now (cells .exit)) n ⌝ }
+{
+    let mut struck = 0;
+    for p in 0..v {
+        let k = v * p + p;
+        struck += tables::narrow(cells, k, relations::E);
+    }
+    struck
+}
+
+// Each pair of boards is the same seen from both sides.
+pub fn turn(v: usize, cells: &mut [u8]) -> u32
+    requires { ⌜ Ready v (now cells) ⌝ }
+    ensures { λ n. ⌜ Pass (Quiet v) v (rules2 v) (now (cells .entry)) 0 (now (cells .exit)) n ⌝ }
+{
+    let mut struck = 0;
+    for p in 0..v {
+        for q in 0..v {
+            let bound = relations::converse(cells[v * p + q]);
+            let k = v * q + p;
+            struck += tables::narrow(cells, k, bound);
+        }
+    }
+    struck
+}
+
+// Each three boards: the first to the third is what the second allows. It is left at once when a cell is empty.
+pub fn sweep(v: usize, cells: &mut [u8]) -> Swept
+    requires { ⌜ Ready v (now cells) ⌝ }
+    ensures { λ r. ⌜ sweeping v (rules3 v) (now (cells .entry)) (now (cells .exit)) r ⌝ }
+{
+    let compositions = relations::composition_table();
+    let mut struck = 0;
+    let mut last = relations::FULL;
+    'sweep: for p in 0..v {
+        for q in 0..v {
+            for r in 0..v {
+                let k = v * p + r;
+                let bound = relations::compose(&compositions, cells[v * p + q], cells[v * q + r]);
+                struck += tables::narrow(cells, k, bound);
+                last = cells[k];
+                if last == 0 {
+                    break 'sweep;
+                }
+            }
+        }
+    }
+    if last == 0 {
+        return Swept::Emptied;
+    }
+    Swept::Struck(struck)
+}

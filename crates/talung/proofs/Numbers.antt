@@ -1,0 +1,64 @@
+-- The number that a call answers is at most 10. Assumes nothing.
+use mathlib.Core.Path.{_≡_, refl}
+use mathlib.Core.Bool.{Bool, true, false, _&&_}
+use mathlib.Core.List.{List}
+use Prim.Native.Nat.{ℕ, _*_, _≤_}
+use native.Mathlib.Omega.{arith}
+use lib.Dec.{leb, eqb}
+use lib.ListN.{length, replicate}
+use Rattle.rules.specs.Relations.{full}
+use Rattle.rules.specs.Descriptions.{Sheet, Reading, good, refused, read, mostBoards}
+use Rattle.rules.specs.Tables.{emptied}
+use Rattle.rules.specs.Closed.{strikes}
+use Rattle.rules.specs.Closing.{closing}
+use Rattle.rules.specs.Search.{found, none, Capped, ended, ranOut, search, cap}
+use Rattle.rules.specs.Calls.{Outcome, refuse, succeed, wellFormed, given, reading, fresh, close, answer, searching, arranged, check}
+use Rattle.rules.proofs.Descriptions.{read-numbered}
+
+abbrev Numbered : Outcome → Type 0
+Numbered o = o .number ≤ 10
+
+either : (b : Bool) (x y : Outcome) → Numbered x → Numbered y → Numbered (elim b [ true ↦ x | false ↦ y ])
+either true x y h k = h
+either false x y h k = k
+
+given-numbered : (ws t : List ℕ) (f : Sheet → Outcome) → ((s : Sheet) → Numbered (f s)) → Numbered (given ws t f)
+given-numbered ws t f h = by (read ws) refl
+  where
+    by : (r : Reading Sheet) → read ws ≡ r
+        → Numbered (elim r [ good s ↦ elim (wellFormed (s .boards) t) [ true ↦ f s | false ↦ refuse 6 0 t ] | refused n ↦ refuse n 0 t ])
+    by (good s) e = either (wellFormed (s .boards) t) (f s) (refuse 6 0 t) (h s) (omega arith)
+    by (refused n) e = omega (arith, read-numbered ws n e)
+
+pub reading-numbered : (ws : List ℕ) → reading ws ≤ 10
+unfolding reading
+reading-numbered ws = by (read ws) refl
+  where
+    by : (r : Reading Sheet) → read ws ≡ r → elim r [ good s ↦ 0 | refused n ↦ n ] ≤ 10
+    by (good s) e = omega arith
+    by (refused n) e = omega (arith, read-numbered ws n e)
+
+pub fresh-numbered : (v : ℕ) (t : List ℕ) → Numbered (fresh v t)
+unfolding fresh
+fresh-numbered v t =
+    either (leb 1 v && leb v mostBoards) (elim (eqb (length t) (v * v)) [ true ↦ succeed 0 (replicate (v * v) full) | false ↦ refuse 6 0 t ]) (refuse 1 0 t)
+    (either (eqb (length t) (v * v)) (succeed 0 (replicate (v * v) full)) (refuse 6 0 t) (omega arith) (omega arith)) (omega arith)
+
+pub close-numbered : (ws t : List ℕ) → Numbered (close ws t)
+unfolding close
+close-numbered ws t =
+    given-numbered ws t _
+    (λ s. either (emptied (closing s t)) (refuse 7 0 t) (succeed (strikes t (closing s t)) (closing s t)) (omega arith) (omega arith))
+
+pub searching-numbered : (ord ws t : List ℕ) (b : ℕ) → Numbered (searching ord ws t b)
+unfolding searching
+searching-numbered ord ws t b = given-numbered ws t _ (λ s. by (cap b (search (closing s) ord (s .boards) t)))
+  where
+    by : (c : Capped) → Numbered (answer t c)
+    by (ended (found n w)) = omega arith
+    by (ended (none n)) = omega arith
+    by (ranOut n) = omega arith
+
+pub check-numbered : (ws t : List ℕ) → Numbered (check ws t)
+unfolding check
+check-numbered ws t = given-numbered ws t _ (λ s. either (arranged s t) (succeed 0 t) (refuse 10 0 t) (omega arith) (omega arith))

@@ -1,0 +1,20 @@
+-- A call of the solver, with its answer packed, has the outcome packed; and how number and count are taken out again. Assumes nothing.
+use mathlib.Core.Path.{_≡_, ap, _∙_}
+use mathlib.Core.List.{List}
+use Prim.Native.Nat.{ℕ, _/_, _%_, _≤_}
+use native.Mathlib.Omega.{arith}
+use Rattle.rules.specs.Calls.{Outcome}
+use Rattle.answers.specs.declared.Answer.{Answer}
+use Rattle.answers.specs.Answers.{outcome}
+use Rattle.talung.specs.Packed.{countUnit, packed, Packed}
+
+pub packs : (o : Outcome) (a : Answer) (w : List ℕ) (n : ℕ) → n ≡ packed (a .number) (a .count) → outcome a w ≡ o → Packed n w o
+packs o a w n e is =
+    record {
+      answer = e ∙ ap (λ (o : Outcome). packed (o .number) (o .count)) is;
+      table = ap (λ (o : Outcome). o .table) is;
+    }
+
+-- of the numbers that calls answer, which are at most 10 (`Numbers`)
+pub unpacked : (n number count : ℕ) → number ≤ 10 → n ≡ packed number count → (n % countUnit ≡ number) × (n / countUnit ≡ count)
+unpacked n number count h e = (omega arith, omega arith)

@@ -1,0 +1,81 @@
+-- `retreat` meets its contract: it goes back, and rebuilds the cells where a relation is left. Assumes nothing.
+use mathlib.Core.Path.{_≡_, subst}
+use mathlib.Core.Logic.{⊎-elim}
+use mathlib.Core.List.{List, [], _∷_}
+use Prim.Native.Nat.{ℕ, _<_}
+use native.Mathlib.Omega.{arith}
+use lib.ListN.{length}
+use types.Run.{OneOf}
+use denote.Enum.Declared.{tagOf}
+use Rattle.tries.proofs.choices.Next.{the-type}
+use Rattle.rules.specs.Search.{places}
+use Rattle.tries.specs.declared.choices.Next.{Next}
+use Rattle.tries.specs.declared.choices.Next.the-variants.{Try, Found, Spent}
+use Rattle.tries.specs.Choices.{backs}
+use Rattle.tries.proofs.Walking.{pair-within}
+use borrow.Author.Needs.{needs}
+use Rattle.tries.proofs.retreat.Statement.{statement}
+use Rattle.tries.proofs.retreat.Tie as tie
+
+-- going back ends with a pair or with none
+spent : (v : ℕ) (ord cs : List ℕ) (i : ℕ) (ds : List ℕ) (r : Next) → OneOf (1 ∷ 2 ∷ []) (tagOf the-type r) → backs v ord cs i ds r → backs v ord cs i ds Spent
+spent v ord cs i ds (Try at) k b = ⊎-elim (λ (e : _≡_ {A = ℕ} 0 1). let z : ⊥ = omega arith in absurd z) (λ (e : _≡_ {A = ℕ} 0 2). let z : ⊥ = omega arith in absurd z) k
+spent v ord cs i ds Found k b = absurd b
+spent v ord cs i ds Spent k b = b
+
+back-requires : tie.Need-back-requires
+back-requires c κs = search needs
+
+enum-known-place : tie.Need-enum-known-place
+enum-known-place c = search needs
+
+same-length : tie.Need-same-length
+same-length c = search needs
+
+returns : tie.Need-returns
+returns c =
+    let start = c .before .before .before .before .before .before .before .before .before in
+    let back = c .before .before .before .back in
+    spent (start .args .v) (start .args .order .now) (start .args .choices .now) (start .args .at .index) (back .last .1 .1 .1 .0) (back .result) (c .match .keys2) (back .ensures)
+
+rebuild-requires : tie.Need-rebuild-requires
+rebuild-requires c κs =
+    let start = c .before .before .before .before .before .before .before .before .before .before .before .before .before in
+    let back = c .before .before .before .before .before .before .before .back in
+    let place = c .before .before .before .place in
+    let b = subst (backs (start .args .v) (start .args .order .now) (start .args .choices .now) (start .args .at .index) (back .last .1 .1 .1 .0)) (place .given .1) (back .ensures) in
+    let l : place .given .0 .0 .index < length (places (start .args .v)) = pair-within (b .pair) (b .within) in
+    let m : start .args .at .q < start .args .v = start .pre .within in (
+      start .pre .ready,
+      omega arith,
+      start .pre .order,
+      b .bytes,
+      omega arith,
+      start .pre .cells,
+    )
+
+same-length-2 : tie.Need-same-length-2
+same-length-2 c = search needs
+
+same-length-3 : tie.Need-same-length-3
+same-length-3 c = search needs
+
+returns-2 : tie.Need-returns-2
+returns-2 c =
+    let start = c .before .before .before .before .before .before .before .before .before .before .before .before .before .before .before .before in
+    let back = c .before .before .before .before .before .before .before .before .before .before .back in
+    let place = c .before .before .before .before .before .before .place in
+    (subst (backs (start .args .v) (start .args .order .now) (start .args .choices .now) (start .args .at .index) (back .last .1 .1 .1 .0)) (place .given .1) (back .ensures), c .before .before .rebuild .ensures)
+
+pub retreat-spec : {M : Type 1} → statement M
+retreat-spec =
+    tie.close
+    (tie.spec
+    back-requires
+    enum-known-place
+    same-length
+    returns
+    rebuild-requires
+    same-length-2
+    same-length-3
+    returns-2)

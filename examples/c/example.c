@@ -1,0 +1,149 @@
+/* Describes four sites in code, has them closed, searched and checked, and says what comes of it. To be linked with libtalung.a. */
+#include <assert.h>
+#include <stdio.h>
+#include <string.h>
+
+#include "talungbisay.h"
+
+enum { BUDGET = 10000 };
+
+struct site {
+    const char *title;
+    const char *const *names; /* of the boards */
+    uint32_t boards;
+    const uint16_t *words;
+    size_t n;
+};
+
+/* "At or above" allows that both are one board. Said both ways, they are. */
+static const char *const pair_names[] = {"switch", "board A"};
+static const uint16_t pair_words[] = {
+    2, 2, 0, 6, 18, 18,
+    0, 1, 3, TALUNG_EITHER, TALUNG_IS_SAME, TALUNG_IS_ABOVE,
+    1, 0, 3, TALUNG_EITHER, TALUNG_IS_SAME, TALUNG_IS_ABOVE,
+};
+static const struct site pair = {"Each is at or above the other", pair_names, 2, pair_words, sizeof pair_words / sizeof *pair_words};
+
+/* A panel's ways are all of its ways: what is below the panel and beside two of three ways is the third, or below it. */
+static const char *const panel_names[] = {"main", "kitchen", "workshop", "pump", "meter"};
+static const uint16_t panel_words[] = {
+    5, 3, 1, 6, 18, 24,
+    0, 4, 1, TALUNG_IS_ABOVE,
+    1, 4, 1, TALUNG_IS_SIDE,
+    2, 4, 1, TALUNG_IS_SIDE,
+    0, 7, 3, 1, 2, 3,
+};
+static const struct site panel = {"A three-way panel", panel_names, 5, panel_words, sizeof panel_words / sizeof *panel_words};
+
+/* Beside all three ways there is no place for it. */
+static const uint16_t crowded_words[] = {
+    5, 4, 1, 6, 22, 28,
+    0, 4, 1, TALUNG_IS_ABOVE,
+    1, 4, 1, TALUNG_IS_SIDE,
+    2, 4, 1, TALUNG_IS_SIDE,
+    3, 4, 1, TALUNG_IS_SIDE,
+    0, 7, 3, 1, 2, 3,
+};
+static const struct site crowded = {"A meter beside all three ways", panel_names, 5, crowded_words, sizeof crowded_words / sizeof *crowded_words};
+
+/* Of two boards there is no board 2: they are numbered from 0. */
+static const uint16_t slip_words[] = {
+    2, 1, 0, 6, 10, 10,
+    1, 2, 1, TALUNG_IS_ABOVE,
+};
+static const struct site slip = {"A slip of the pen", pair_names, 2, slip_words, sizeof slip_words / sizeof *slip_words};
+
+static const char *meaning(uint64_t answer)
+{
+    switch (talung_number(answer)) {
+    case TALUNG_OUT_OF_RANGE: return "the header is too short, or a number in it is out of range";
+    case TALUNG_MISPLACED: return "an offset or the total in the header is wrong";
+    case TALUNG_UNFIT: return "a line does not fit its section";
+    case TALUNG_NO_BOARD: return "a line names a board that the site has not";
+    case TALUNG_NO_EXPRESSION: return "an expression is malformed";
+    case TALUNG_NO_TABLE: return "the table is none of this site";
+    case TALUNG_CONTRADICTORY: return "the lines contradict each other";
+    case TALUNG_NOWHERE: return "no tree fits";
+    case TALUNG_RAN_OUT: return "the budget of tries ran out";
+    case TALUNG_NO_ARRANGEMENT: return "this is no tree that fits";
+    default: return "good";
+    }
+}
+
+/* Says that the call was refused, if it was, and sees that it has left the table as it was lent. */
+static int refused(const char *call, uint64_t answer, const struct site *s, const uint8_t *table, const uint8_t *lent)
+{
+    if (talung_number(answer) == TALUNG_OK)
+        return 0;
+    assert(memcmp(table, lent, s->boards * s->boards) == 0);
+    printf("  %s: refused with %u, %s; the table is as it came\n", call, (unsigned)talung_number(answer), meaning(answer));
+    return 1;
+}
+
+/* Says what each board may be to each later one. */
+static void print_table(const struct site *s, const uint8_t *table)
+{
+    static const struct {
+        uint8_t relation;
+        const char *words;
+    } said[] = {{TALUNG_SAME, "the same as"}, {TALUNG_ABOVE, "above"}, {TALUNG_BELOW, "below"}, {TALUNG_SIDE, "beside"}};
+    for (uint32_t p = 0; p < s->boards; p++) {
+        for (uint32_t q = p + 1; q < s->boards; q++) {
+            const char *link = "";
+            printf("    %s is ", s->names[p]);
+            for (size_t i = 0; i < sizeof said / sizeof *said; i++) {
+                if (table[s->boards * p + q] & said[i].relation) {
+                    printf("%s%s", link, said[i].words);
+                    link = " or ";
+                }
+            }
+            printf(" %s\n", s->names[q]);
+        }
+    }
+}
+
+/* Closes a fresh table, searches it and checks what was found. Leaves the table. */
+static void solve(const struct site *s, uint8_t *table)
+{
+    uint8_t lent[TALUNG_MOST_CELLS];
+    size_t cells = s->boards * s->boards;
+    uint64_t answer = talung_fresh(s->boards, table, cells);
+    assert(talung_number(answer) == TALUNG_OK);
+    memcpy(lent, table, cells);
+
+    printf("%s\n", s->title);
+    printf("  reading: %s\n", meaning(talung_read(s->words, s->n)));
+
+    answer = talung_close(s->words, s->n, table, cells);
+    if (!refused("closing", answer, s, table, lent)) {
+        printf("  closing: good, relations struck: %u\n", (unsigned)talung_count(answer));
+        print_table(s, table);
+        memcpy(lent, table, cells);
+    }
+
+    answer = talung_search(s->words, s->n, table, cells, BUDGET);
+    if (refused("search", answer, s, table, lent))
+        return;
+    printf("  search: good, tries made: %u\n", (unsigned)talung_count(answer));
+    print_table(s, table);
+    printf("  check: %s\n", meaning(talung_check(s->words, s->n, table, cells)));
+}
+
+/* Has a table checked in which p is beside q, and all else is as it was found. */
+static void propose_beside(const struct site *s, uint8_t *table, uint32_t p, uint32_t q)
+{
+    table[s->boards * p + q] = TALUNG_SIDE;
+    table[s->boards * q + p] = TALUNG_SIDE;
+    printf("  check with %s beside %s: %s\n", s->names[p], s->names[q], meaning(talung_check(s->words, s->n, table, s->boards * s->boards)));
+}
+
+int main(void)
+{
+    uint8_t table[TALUNG_MOST_CELLS];
+    solve(&pair, table);
+    solve(&panel, table);
+    propose_beside(&panel, table, 3, 4);
+    solve(&crowded, table);
+    solve(&slip, table);
+    return 0;
+}

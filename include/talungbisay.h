@@ -1,0 +1,114 @@
+/* Talungbisay: finds radial trees of boards that fit a description, and checks those that somebody proposes.
+ *
+ * A call is lent a description, a table or both. It takes whatever they hold: what is malformed is refused by a number. It keeps nothing, allocates nothing
+ * and always returns. A refusal leaves the lent table as it came. Calls on different tables may run at the same time.
+ *
+ * All that the caller answers for:
+ *  - 'words' points to n words and 'table' to as many cells as said. Neither is ever NULL, not even where the length is 0.
+ *  - The words and the table do not overlap, and nothing else writes them during the call, nor reads a table that the call writes.
+ *
+ * To link: this header and libtalung.a, for x86-64 Linux. C99 or later, or C++. Of the C library it uses memcpy and memset alone. */
+#ifndef TALUNGBISAY_H
+#define TALUNGBISAY_H
+
+#include <stddef.h>
+#include <stdint.h>
+
+#ifdef __cplusplus
+extern "C" {
+#endif
+
+/* The most that a site has. */
+enum {
+    TALUNG_MOST_BOARDS = 16,
+    TALUNG_MOST_CELLS = 256,
+    TALUNG_MOST_WORDS = 2486
+};
+
+/* What board p may be to board q, as bits of a cell. A cell is a set of them: 0 has none of them, 15 all four. */
+enum {
+    TALUNG_SAME = 1,  /* p and q are two names of one board */
+    TALUNG_ABOVE = 2, /* p feeds q, directly or through other boards */
+    TALUNG_BELOW = 4, /* q feeds p */
+    TALUNG_SIDE = 8,  /* p and q lie on separate feeders */
+    TALUNG_ANY = 15   /* nothing is known */
+};
+
+/* A description is a run of 16-bit words. Its first six are its header:
+ *
+ *     the number of boards V, 1 to 16; they are numbered from 0
+ *     the number of relation lines, 0 to 128
+ *     the number of kind lines, 0 to 16
+ *     where the relation lines begin: always word 6
+ *     where the kind lines begin
+ *     the number of words in all
+ *
+ * Relation line: p, q, a length from 1 to 15, and an expression of that many words. What p is to q must be among what the expression allows.
+ * Kind line: p, a kind code, a number of ways from 0 to 8, and that many boards in order. Panel p feeds exactly these, on separate feeders, and all else that
+ * is below it is below them. Two panels that are one board have one code, and the same boards in the same places.
+ *
+ * An expression is written with each operator before its operands: 'at or above' is TALUNG_EITHER, TALUNG_IS_SAME, TALUNG_IS_ABOVE. */
+enum {
+    TALUNG_IS_SAME = 0,
+    TALUNG_IS_ABOVE = 1,
+    TALUNG_IS_BELOW = 2,
+    TALUNG_IS_SIDE = 3,
+    TALUNG_EITHER = 4, /* union of the two expressions that follow */
+    TALUNG_BOTH = 5,   /* intersection of the two expressions that follow */
+    TALUNG_NOT = 6,    /* complement of the expression that follows */
+    TALUNG_INVERSE = 7 /* the expression that follows, of q to p */
+};
+
+/* What a call answers. The first refusal that applies is given, in the order 1, 2, then the first faulty line (3, 4 and 5 within it), 6, then the rest. */
+enum {
+    TALUNG_OK = 0,
+    TALUNG_OUT_OF_RANGE = 1,   /* fewer than 6 words; or the number of boards, relation lines or kind lines is out of range */
+    TALUNG_MISPLACED = 2,      /* the header's offsets or its total are wrong; the total must be the number of words lent */
+    TALUNG_UNFIT = 3,          /* a line runs past its section, its length or number of ways is out of range, or words are left over */
+    TALUNG_NO_BOARD = 4,       /* a line names a board that the site has not */
+    TALUNG_NO_EXPRESSION = 5,  /* an expression has a code above 7, breaks off, or has words left over */
+    TALUNG_NO_TABLE = 6,       /* the table has not V times V cells, or a cell is above 15 */
+    TALUNG_CONTRADICTORY = 7,  /* closing: the description and the table contradict each other */
+    TALUNG_NOWHERE = 8,        /* search: no tree fits; the count is of the tries made */
+    TALUNG_RAN_OUT = 9,        /* search: more tries are needed than the budget; the count is the budget */
+    TALUNG_NO_ARRANGEMENT = 10 /* check: the table is no tree that fits */
+};
+
+/* Takes an answer apart: its number, TALUNG_OK or a refusal, is the low 32 bits, its count the high 32. The count is 0 where nothing else is said. */
+static inline uint32_t talung_number(uint64_t answer)
+{
+    return (uint32_t)(answer % 4294967296u);
+}
+
+static inline uint32_t talung_count(uint64_t answer)
+{
+    return (uint32_t)(answer / 4294967296u);
+}
+
+/* A table has V times V cells, a byte each; what p may be to q stands at V times p plus q. */
+
+/* Reads a description of n words. Answers TALUNG_OK if it is good, else a refusal from 1 to 5. */
+uint64_t talung_read(const uint16_t *words, size_t n);
+
+/* Makes the table one of v boards of which nothing is known yet: each cell is TALUNG_ANY. Answers TALUNG_OK; or TALUNG_OUT_OF_RANGE where v is not 1 to 16,
+ * whatever 32-bit number it is, then TALUNG_NO_TABLE where there are not v times v cells. What the cells hold before does not matter. */
+uint64_t talung_fresh(uint32_t v, uint8_t *table, size_t cells);
+
+/* Strikes from the table what the rules exclude under the description: leaves the largest table inside it in which no rule strikes anything, and loses no
+ * tree that fits. Answers TALUNG_OK, and counts the relations struck, 0 to 768; or a refusal from 1 to 7. */
+uint64_t talung_close(const uint16_t *words, size_t n, uint8_t *table, size_t cells);
+
+/* Looks for a tree inside the table that fits the description, with at most as many tries as the budget, which is any number. Leaves the first one in the order
+ * of its cells (p, q) with p < q, same before above before below before side: each cell is then a single relation. Answers TALUNG_OK, and counts the
+ * tries made; or a refusal from 1 to 6, TALUNG_NOWHERE or TALUNG_RAN_OUT. */
+uint64_t talung_search(const uint16_t *words, size_t n, uint8_t *table, size_t cells, uint32_t budget);
+
+/* Says whether the table is a tree that fits the description, whoever proposed it, and only reads it. Answers TALUNG_OK if it is; else a refusal from 1 to 6, or
+ * TALUNG_NO_ARRANGEMENT. */
+uint64_t talung_check(const uint16_t *words, size_t n, const uint8_t *table, size_t cells);
+
+#ifdef __cplusplus
+}
+#endif
+
+#endif

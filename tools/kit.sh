@@ -1,0 +1,35 @@
+# What the scripts share, to be sourced at the top of the repository: where the Rattle kit is, and how a C file is compiled, a program linked and a program run
+# with it. All programs are for x86-64: on another kind of machine they run under the kit's emulator, and their times say nothing.
+
+die() { # WORDS...: something could not be built
+    printf '%s: %s\n' "${0##*/}" "$*" >&2
+    exit 2
+}
+
+rt=$(command -v rt) || die "no rt on the path"
+kit=${RATTLE_HOME:-$(dirname "$(readlink -f "$rt")")/..}
+own=$kit/on/$(uname -m)
+toolchain=$own/toolchain
+[ -x "$toolchain/bin/clang" ] || die "the kit has nothing for this machine"
+emulator=$toolchain/bin/qemu-x86_64
+[ -x "$emulator" ] || emulator=''
+
+compile_c() { # SOURCE OBJECT WORDS...: with C's headers as far as tools/headers/ declares them, since the kit has none
+    source=$1 object=$2
+    shift 2
+    "$toolchain/bin/clang" --target=x86_64-linux-gnu -march=x86-64 -Wall -Wextra -nostdinc -isystem tools/headers "$@" -c "$source" -o "$object" ||
+        die "$source does not compile"
+}
+
+link_program() { # PROGRAM OBJECTS...
+    program=$1
+    shift
+    "$own/bin/rattle-link" --target x86_64-unknown-linux-gnu --toolchain "$toolchain" -o "$program" "$@" 2>"$program.log" || {
+        cat "$program.log" >&2
+        die "$program does not link"
+    }
+}
+
+run_program() { # PROGRAM WORDS...: one that was linked so, or target/bin/NAME; under the kit's loader and C library, as rt runs it
+    ${emulator:+"$emulator"} "$toolchain/lib/ld-linux-x86-64.so.2" --library-path "$toolchain/lib" "$@"
+}

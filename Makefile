@@ -1,8 +1,8 @@
 # make test: everything that is claimed, from nothing. The last line is the verdict, 'N passed, 0 failed'.
-.PHONY: test lib c_example bench
+.PHONY: test lib c_example fuzz bench
 
 test:
-	@rt ci
+	@sh tests/run.sh
 
 # make lib: the library that people link and its header, in dist/.
 lib:
@@ -13,6 +13,12 @@ lib:
 # make c_example: builds the example in C against dist/, runs it and compares what it writes.
 c_example: lib
 	@sh tests/c_example.sh
+
+# make fuzz N=100000 SEED=1: the product and the second program on fresh cases, up to the first difference.
+N = 100000
+SEED = 1
+fuzz:
+	@sh tools/fuzz.sh $(N) $(SEED)
 
 # make bench: how long closings and searches take beside plain C versions of the same methods, and that both answer the same.
 bench: lib

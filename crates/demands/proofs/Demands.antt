@@ -36,6 +36,16 @@ use Rattle.search.proofs.search.Met as search-met
 use Rattle.checking.specs.Runs.{Checking}
 use Rattle.checking.proofs.check.Statement as check
 use Rattle.checking.proofs.check.Met as check-met
+use Rattle.talung.proofs.talung_read.Statement as c-read
+use Rattle.talung.proofs.talung_read.Met as c-read-met
+use Rattle.talung.proofs.talung_fresh.Statement as c-fresh
+use Rattle.talung.proofs.talung_fresh.Met as c-fresh-met
+use Rattle.talung.proofs.talung_close.Statement as c-close
+use Rattle.talung.proofs.talung_close.Met as c-close-met
+use Rattle.talung.proofs.talung_search.Statement as c-search
+use Rattle.talung.proofs.talung_search.Met as c-search-met
+use Rattle.talung.proofs.talung_check.Statement as c-check
+use Rattle.talung.proofs.talung_check.Met as c-check-met
 use Rattle.demands.specs.Entries.{Call, searches, Reads, Freshens, Refuses, Arranges}
 use Rattle.demands.proofs.Refusing.{refuses, reading-refused, reading-good, call-gives, gives-description, gives-table, gives-leaves, gives-good}
 use Rattle.demands.proofs.Finding.{stated, search-ends, ways-found, ways-none, ways-out, out-ways, ways-within, ways-tries, budget-more, stated-found, stated-none, check-ends, check-rejects, check-accepts, check-accepted}
@@ -46,6 +56,10 @@ use Rattle.demands.proofs.Ending.{ends, ends-answers, ends-keeps, ends-
 -- Every entry point takes whatever it is lent, ends, and does nothing undefined: its code meets its contract, which asks nothing of the caller.
 pub every-entry-point : {M : Type 1} → read.statement M × fresh.statement M × close.statement M × search.statement M × check.statement M
 every-entry-point = (read-met.met, fresh-met.met, close-met.met, search-met.met, check-met.met)
+
+-- So do the calls for C, which are these with the answer packed in one number.
+pub every-call-for-c : {M : Type 1} → c-read.statement M × c-fresh.statement M × c-close.statement M × c-search.statement M × c-check.statement M
+every-call-for-c = (c-read-met.met, c-fresh-met.met, c-close-met.met, c-search-met.met, c-check-met.met)
 
 module _ (ws t : List ℕ) (a : Answer) (w : List ℕ) (call : Call ws t a w) where
   -- Malformed descriptions and tables are refused by number, the caller having checked nothing;

@@ -68,3 +68,7 @@ module _ (ws : List ℕ) where
       go : (r : Reading Sheet) → read ws ≡ r → Refused q ≡ numbersFound ws r → read ws ≡ refused (q .number)
       go (good s) e p = clash (cc)
       go (refused n) e p = let f : q ≡ refusal n = cc in e ∙ ap (λ (r : Refusal). refused (r .number)) (sym f)
+
+-- words mean one description
+pub described-one : {ws : List ℕ} {h : Header} {s u : Sheet} → Described ws h s → read ws ≡ good u → s ≡ u
+described-one d e = let m = d .means in cc

@@ -5,7 +5,7 @@ ghost use Rattle.rules.specs.Calls.{reading, fresh, close, searching, check};
 ghost use Rattle.talung.specs.Packed.{packed, Packed};
 
 // What one of the count adds to a packed answer.
-const COUNT_UNIT: u64 = 4294967296;
+pub const COUNT_UNIT: u64 = 4294967296;
 
 fn wide_number(x: u8) -> u64
     ensures { λ n. ⌜ n ≡ x ⌝ }

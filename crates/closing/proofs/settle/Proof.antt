@@ -10,7 +10,7 @@ use Rattle.rules.specs.Tables.{emptied}
 use Rattle.rules.specs.Closing.{closing}
 use Rattle.passes.specs.Passes.{mostMembers}
 use Rattle.passes.proofs.Passes.{kept-few, kept-then, kept-from, ready-kept}
-use Rattle.sheet.proofs.Described.{described}
+use Rattle.sheet.proofs.Described.{described, described-one}
 use Rattle.closing.specs.Rounds.{moving, settling}
 use Rattle.closing.proofs.Closings.{closes-under, closes-after, clash-after}
 use borrow.Author.Needs.{needs}
@@ -139,7 +139,7 @@ returns c = λ s e.
     let o₁ = c .before .before .before .before .before .before .before .before .before .before .before .before .before .before .before .before .before .before .before .diagonal .ensures in
     let o₄ = c .before .before .before .before .before .before .before .before .before .before .before .before .before .before .relation-lines .ensures (d .0 .lines) (d .1 .lines) in
     let o₅ = c .before .before .before .before .before .before .before .before .before .spreads .ensures (d .0 .kinds) (d .1 .kinds) in
-    let f : d .0 ≡ s = cc in
+    let f : d .0 ≡ s = described-one (d .1) e in
     subst (λ (s : Sheet). T (emptied (closing s (start .args .cells .now)))) f
     (clash-after (d .0) (d .1 .boards) (start .pre .1 .table) o₁ o₄ o₅
     (subst (settling (start .args .h .boards) (moving (start .args .h .boards) (d .0 .kinds)) _ _) (c .enum-told .given .1) (c .before .before .before .before .rounds .ensures (d .0 .kinds) (d .1 .kinds))))
@@ -166,7 +166,7 @@ returns-2 c = λ s e.
     let o₄ = c .before .before .before .before .before .before .before .before .before .before .before .before .before .before .before .relation-lines .ensures (d .0 .lines) (d .1 .lines) in
     let o₅ = c .before .before .before .before .before .before .before .before .before .before .spreads .ensures (d .0 .kinds) (d .1 .kinds) in
     let r = subst (settling (start .args .h .boards) (moving (start .args .h .boards) (d .0 .kinds)) _ _) (c .before .more .given .1) (c .before .before .before .before .before .rounds .ensures (d .0 .kinds) (d .1 .kinds)) in
-    let f : d .0 ≡ s = cc in
+    let f : d .0 ≡ s = described-one (d .1) e in
     closes-under f (closes-after (d .0) (d .1 .boards) (start .pre .1 .table) o₁ o₄ o₅ r)
 
 pub settle-spec : {M : Type 1} → statement M

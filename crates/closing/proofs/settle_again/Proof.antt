@@ -2,7 +2,7 @@
 -- strike nothing. Assumes nothing.
 use mathlib.Core.Path.{_≡_, subst}
 use Rattle.rules.specs.Descriptions.{Sheet}
-use Rattle.sheet.proofs.Described.{described}
+use Rattle.sheet.proofs.Described.{described, described-one}
 use Rattle.closing.specs.Closes.{closes}
 use Rattle.closing.proofs.Closings.{settling-again}
 use native.Mathlib.Omega.{arith}
@@ -46,7 +46,7 @@ returns c = λ s e.
     let d = described (start .args .words .now) (start .args .h) (start .pre .0) in
     let w = c .before .before .rounds .last .1 .1 .1 .0 in
     let r = c .before .before .rounds .result in
-    let f : d .0 ≡ s = cc in
+    let f : d .0 ≡ s = described-one (d .1) e in
     subst (λ (s : Sheet). closes s (start .args .cells .now) w r) f
     (settling-again (d .0) (d .1 .boards) (start .pre .1 .table) (start .pre .2 (d .0) (d .1 .means)) w r
     (c .before .before .rounds .ensures (d .0 .kinds) (d .1 .kinds)))

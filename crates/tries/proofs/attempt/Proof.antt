@@ -3,7 +3,7 @@ use mathlib.Core.Path.{_≡_, _∙_, subst}
 use native.Mathlib.Omega.{arith}
 use lib.ListN.{length-set}
 use Rattle.rules.specs.Descriptions.{Sheet}
-use Rattle.sheet.proofs.Described.{described}
+use Rattle.sheet.proofs.Described.{described, described-one}
 use Rattle.tries.specs.Tries.{Tried}
 use Rattle.tries.proofs.Attempts.{try-pair, try-within, try-bytes, try-byte, try-cell, try-room, try-first, try-ready, try-steady, on-ready, goes-on, goes-back}
 use borrow.Author.Needs.{needs}
@@ -54,7 +54,7 @@ settle-again-requires c κs =
       start .pre .header,
       try-ready (d .0) (start .pre .order) (start .args .first .now) (d .1 .boards) (d .1 .few) (start .args .choices .now) (start .args .cells .now) (start .args .at) try picks,
       λ s e.
-          let f : d .0 ≡ s = cc in
+          let f : d .0 ≡ s = described-one (d .1) e in
           try-steady (d .0) (start .pre .order) (start .args .first .now) (d .1 .boards) (d .1 .few) (start .args .choices .now) (start .args .cells .now) (start .args .at) try picks s f,
     )
 
@@ -110,7 +110,7 @@ returns c =
     let settled = c .before .before .before .before .before .before .before .before .before .before .settle-again in
     let closed = settled .ensures (d .0) (d .1 .means) in
     λ s e.
-    let f : d .0 ≡ s = cc in
+    let f : d .0 ≡ s = described-one (d .1) e in
     subst (λ (s : Sheet). Tried s (start .args .order .now) (start .args .first .now) (start .args .at) (start .args .choices .now) (c .before .before .onward .last .1 .1 .1 .0) (settled .last .1 .1 .0) (c .before .before .onward .result)) f
     (goes-on (d .0) (start .pre .order) (start .args .first .now) (d .1 .boards) (d .1 .few) (start .args .choices .now) (start .args .cells .now) (start .args .at) try picks (settled .last .1 .1 .0) (settled .result) closed (c .before .before .before .before .before .before .enum-told .given .1) (c .before .before .before .before .before .after .result .index) (c .before .before .before .before .before .after .ensures .1) (c .before .before .onward .last .1 .1 .1 .0) (c .before .before .onward .result) (c .before .before .onward .ensures))
 
@@ -129,7 +129,7 @@ returns-2 c =
     let settled = c .before .before .before .before .before .before .before .before .before .before .before .settle-again in
     let closed = settled .ensures (d .0) (d .1 .means) in
     λ s e.
-    let f : d .0 ≡ s = cc in
+    let f : d .0 ≡ s = described-one (d .1) e in
     subst (λ (s : Sheet). Tried s (start .args .order .now) (start .args .first .now) (start .args .at) (start .args .choices .now) (c .before .before .before .before .retreat .last .1 .1 .1 .1 .0) (c .before .before .before .before .retreat .last .1 .1 .1 .1 .1 .0) (c .before .before .before .before .retreat .result)) f
     (goes-back (d .0) (start .pre .order) (start .args .first .now) (d .1 .boards) (d .1 .few) (start .args .choices .now) (start .args .cells .now) (start .args .at) try picks (settled .last .1 .1 .0) (settled .result) closed (c .before .before .before .before .before .before .before .enum-told2 .given .1) (c .before .before .before .before .retreat .last .1 .1 .1 .1 .0) (c .before .before .before .before .retreat .last .1 .1 .1 .1 .1 .0) (c .before .before .before .before .retreat .result) (c .before .before .before .before .retreat .ensures))
 

@@ -6,7 +6,7 @@ use lib.ListN.{length}
 use Rattle.rules.specs.Descriptions.{Sheet}
 use Rattle.rules.specs.Tables.{Table}
 use Rattle.rules.proofs.Descriptions.{read-wellFormed}
-use Rattle.sheet.proofs.Described.{described}
+use Rattle.sheet.proofs.Described.{described, described-one}
 use Rattle.tries.specs.Tries.{Under}
 use Rattle.tries.proofs.Hunting.{Midway, midway-start, midway-more, midway-found, midway-none, midway-out}
 use borrow.Author.Needs.{needs}
@@ -48,7 +48,7 @@ loop-holds c =
     let d = described (start .args .words .now) (start .args .h) (start .pre .header) in
     let on = c .before .before .onward in (
       λ s e.
-          let f : d .0 ≡ s = cc in
+          let f : d .0 ≡ s = described-one (d .1) e in
           subst (λ (s : Sheet). Midway s (start .args .order .now) (start .args .first .now) 0 (on .last .1 .1 .1 .0) (start .args .cells .now) (on .result)) f
           (midway-start (d .0) (start .pre .order) (start .args .first .now) (d .1 .boards) (start .pre .whole (d .0) (d .1 .means)) (start .pre .cells)
           (c .before .before .before .before .before .start .result .index) (c .before .before .before .before .before .start .ensures .1) (start .args .choices .now) (on .last .1 .1 .1 .0) (on .result) (on .ensures)),

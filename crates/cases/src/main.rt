@@ -1,0 +1,148 @@
+// Runs the cases on standard input, one after the other, and writes what each call answers and leaves.
+//
+// A case begins with four numbers of 32 bits: its call, a number, how many words and how many cells it has; then come the words, of 16 bits, and the
+// cells, of a byte. All numbers are little-endian. The number is that of boards for a fresh table, and the budget for a search. A case of the program has
+// bytes for words. The run ends with the input, or at a case that is cut off or too large.
+mod calls;
+mod fronts;
+mod says;
+
+ghost use mathlib.Core.Path.{_≡_};
+ghost use Prim.Native.Nat.{_*_};
+ghost use lib.ListN.{length};
+use crate::fronts::Front;
+use crate::fronts::beginning;
+use crate::says::say_page;
+use libc::STDIN_FILENO;
+
+// The calls. 3, and any other number, is a search.
+const READ: u32 = 0;
+
+const FRESH: u32 = 1;
+
+const CLOSE: u32 = 2;
+
+const CHECK: u32 = 4;
+
+const SITE: u32 = 5;
+
+// The most words and cells of a case, and the most cases.
+const MOST_WORDS: usize = 65600;
+
+const MOST_CELLS: usize = 512;
+
+const MOST_CASES: usize = 1000000000;
+
+// Makes a call of the solver.
+fn make(call: u32, number: u32, words: &[u16], lent: &[u8], cells: &mut [u8]) {
+    if call == READ {
+        return calls::read(words);
+    }
+    if call == FRESH {
+        return calls::fresh(number, lent, cells);
+    }
+    if call == CLOSE {
+        return calls::close(words, lent, cells);
+    }
+    if call == CHECK {
+        return calls::check(words, lent);
+    }
+    calls::search(words, lent, cells, number)
+}
+
+// Fills the room from the input. Answers whether there was enough.
+fn filled(room: &mut [u8]) -> bool {
+    io::read_full(STDIN_FILENO, room) == room.len()
+}
+
+// Fills the room for words and the room for cells. Answers whether there was enough.
+fn both_filled(bytes: &mut [u8], lent: &mut [u8]) -> bool {
+    if !filled(bytes) {
+        return false;
+    }
+    filled(lent)
+}
+
+// Runs a case of the solver, whose words and cells fill what is lent. Answers whether it was whole.
+fn solve(
+    call: u32,
+    number: u32,
+    bytes: &mut [u8],
+    words: &mut [u16],
+    lent: &mut [u8],
+    cells: &mut [u8],
+) -> bool
+    requires { ⌜ (length (now bytes) ≡ 2 * length (now words)) × (length (now cells) ≡ length (now lent)) ⌝ }
+{
+    if !both_filled(bytes, lent) {
+        return false;
+    }
+    listing::words::take_words(bytes, words);
+    tables::copy(lent, cells);
+    make(call, number, words, lent, cells);
+    true
+}
+
+// Runs a case of the program, whose bytes and cells fill what is lent. Answers whether it was whole.
+fn print(bytes: &mut [u8], lent: &mut [u8]) -> bool {
+    if !both_filled(bytes, lent) {
+        return false;
+    }
+    say_page(listing::listing(bytes));
+    true
+}
+
+// Runs the case with this front, in room for its bytes, words and cells. Answers whether it was whole and had room.
+fn rest(f: Front, bytes: &mut [u8], words: &mut [u16], lent: &mut [u8], cells: &mut [u8]) -> bool {
+    let n = f.words;
+    let m = f.cells;
+    if words.len() < n {
+        return false;
+    }
+    if bytes.len() / 2 < n {
+        return false;
+    }
+    if lent.len() < m {
+        return false;
+    }
+    if cells.len() < m {
+        return false;
+    }
+    if f.call == SITE {
+        return print(&mut bytes[..n], &mut lent[..m]);
+    }
+    let size = 2 * n;
+    solve(
+        f.call,
+        f.number,
+        &mut bytes[..size],
+        &mut words[..n],
+        &mut lent[..m],
+        &mut cells[..m],
+    )
+}
+
+// Runs the next case, in room for its bytes, words and cells. Answers whether there was one.
+fn case(bytes: &mut [u8], words: &mut [u16], lent: &mut [u8], cells: &mut [u8]) -> bool {
+    let mut front = [0u8; 16];
+    if !filled(&mut front) {
+        return false;
+    }
+    rest(beginning(front), bytes, words, lent, cells)
+}
+
+fn main() {
+    let mut bytes_room = [0u8; 2 * MOST_WORDS];
+    let mut words_room = [0u16; MOST_WORDS];
+    let mut lent_room = [0u8; MOST_CELLS];
+    let mut cells_room = [0u8; MOST_CELLS];
+    let bytes: &mut [u8] = &mut bytes_room;
+    let words: &mut [u16] = &mut words_room;
+    let lent: &mut [u8] = &mut lent_room;
+    let cells: &mut [u8] = &mut cells_room;
+    for _ in 0..MOST_CASES {
+        if !case(bytes, words, lent, cells) {
+            return;
+        }
+    }
+}

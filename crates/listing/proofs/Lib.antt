@@ -1,0 +1,10 @@
+-- The laws behind the functions of this crate.
+pub mod Putting
+pub mod Numbers
+pub mod Bytes
+pub mod Signs
+pub mod Rows
+pub mod Solving
+pub mod Lengths
+pub mod Shown
+pub mod Determined

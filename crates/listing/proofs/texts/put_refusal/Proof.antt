@@ -1,0 +1,55 @@
+-- `put_refusal` meets its contract: the word, and then the number. Assumes nothing.
+use mathlib.Core.Path.{_≡_, sym, subst}
+use mathlib.Core.List.{_++_}
+use Prim.Native.Nat.{ℕ}
+use Rattle.listing.specs.Listings.{refusedText, lineFeed, decimal, refusal}
+use Rattle.listing.specs.Pages.{Fits, Put}
+use Rattle.listing.proofs.Putting.{put-then, fits-first, fits-rest}
+use borrow.Author.Needs.{needs}
+use Rattle.listing.proofs.texts.put_refusal.Statement.{statement}
+use Rattle.listing.proofs.texts.put_refusal.Tie as tie
+
+slice-aggregate-put-text : tie.Need-slice-aggregate-put-text
+slice-aggregate-put-text c = search needs
+
+put-text-requires : tie.Need-put-text-requires
+unfolding refusal
+put-text-requires c κs =
+    let start = c .before .before .before in
+    let n = start .args .number in
+    fits-first refusedText (decimal n ++ lineFeed) (start .pre)
+
+wide-requires : tie.Need-wide-requires
+wide-requires c κs = search needs
+
+put-last-requires : tie.Need-put-last-requires
+unfolding refusal
+put-last-requires c κs =
+    let start = c .before .before .before .before .before .before .before .before in
+    let n = start .args .number in
+    let number : c .wide .result ≡ n = c .wide .ensures in
+    subst (λ (m : ℕ). Fits (c .before .before .before .before .put-text .last .0) (c .before .before .before .before .put-text .result) (decimal m ++ lineFeed)) (sym number)
+    (fits-rest refusedText (decimal n ++ lineFeed) (start .pre) (c .before .before .before .before .put-text .ensures))
+
+same-length : tie.Need-same-length
+same-length c = search needs
+
+returns : tie.Need-returns
+unfolding refusal
+returns c =
+    let start = c .before .before .before .before .before .before .before .before .before .before .before in
+    let n = start .args .number in
+    let put = c .before .before .put-last in
+    put-then refusedText (decimal n ++ lineFeed) (c .before .before .before .before .before .before .before .put-text .ensures)
+    (subst (λ (m : ℕ). Put (c .before .before .before .before .before .before .before .put-text .last .0) (c .before .before .before .before .before .before .before .put-text .result) (decimal m ++ lineFeed) (put .last .0) (put .result)) (c .before .before .before .wide .ensures) (put .ensures))
+
+pub put-refusal-spec : {M : Type 1} → statement M
+put-refusal-spec =
+    tie.close
+    (tie.spec
+    slice-aggregate-put-text
+    put-text-requires
+    wide-requires
+    put-last-requires
+    same-length
+    returns)

@@ -1,0 +1,3 @@
+-- What the program prints.
+pub mod Listings
+pub mod Pages

@@ -1,0 +1,104 @@
+// What the program prints for the bytes that it read: everything that it decides is decided here.
+mod puts;
+mod texts;
+pub mod words;
+
+ghost use mathlib.Core.Path.{_≡_};
+ghost use lib.ListN.{length, replicate};
+ghost use Prim.Native.Nat.{_*_, _≤_};
+ghost use Rattle.rules.specs.Descriptions.{mostBoards};
+ghost use Rattle.rules.specs.Search.{plainOrder};
+ghost use Rattle.rules.specs.Calls.{searching};
+ghost use Rattle.rules.specs.Cases.{filled};
+ghost use Rattle.listing.specs.Listings.{budget, told, solved, listing, inputLine};
+ghost use Rattle.listing.specs.Pages.{pageBytes, page, Fits, Put};
+use crate::puts::put_text;
+use crate::texts::put_heading;
+use crate::texts::put_pairs;
+use crate::texts::put_refusal;
+use crate::words::room;
+use crate::words::take_words;
+use sheet::header::HeaderFound;
+
+// The size of a page: no page is longer.
+pub const PAGE_BYTES: usize = 1024;
+
+// The bytes of the longest description.
+pub const MOST_BYTES: usize = 4972;
+
+// The tries that are allowed.
+const BUDGET: u32 = 10000;
+
+// What is printed: the bytes used, and zeros after them.
+pub struct Page {
+    pub text: [u8; PAGE_BYTES],
+    pub used: usize,
+}
+
+// A page of zeros.
+fn blank() -> [u8; PAGE_BYTES]
+    ensures { λ r. ⌜ r ≡ replicate pageBytes 0 ⌝ }
+{
+    [0; PAGE_BYTES]
+}
+
+// Searches a full table of v boards, and puts what is printed of that.
+fn put_solved(text: &mut [u8], words: &[u16], v: usize, table: &mut [u8]) -> usize
+    requires { ⌜ (1 ≤ v) × (v ≤ mostBoards) × (length (now table) ≡ v * v) × Fits (now text) 0 (told v (searching plainOrder (now words) (filled v) budget)) ⌝ }
+    ensures { λ n. ⌜ Put (now (text .entry)) 0 (told v (searching plainOrder (now (words .entry)) (filled v) budget)) (now (text .exit)) n ⌝ }
+{
+    tables::fresh(v, table);
+    let found = search::search(words, table, BUDGET);
+    if found.number != 0 {
+        return put_refusal(text, found.number);
+    }
+    let next = put_heading(text, v, found.count);
+    put_pairs(text, next, v, table)
+}
+
+// Puts what is printed for a description.
+fn put_words(text: &mut [u8], words: &[u16]) -> usize
+    requires { ⌜ Fits (now text) 0 (solved (now words)) ⌝ }
+    ensures { λ n. ⌜ Put (now (text .entry)) 0 (solved (now (words .entry))) (now (text .exit)) n ⌝ }
+{
+    let h = match sheet::description(words) {
+        HeaderFound::Good(h) => h,
+        HeaderFound::Refused(r) => return put_refusal(text, r.number),
+    };
+    let v = h.boards;
+    let n = v * v;
+    let mut table = tables::room();
+    put_solved(text, words, v, &mut table[..n])
+}
+
+// Puts what is printed for the bytes.
+fn put_listing(text: &mut [u8], bytes: &[u8]) -> usize
+    requires { ⌜ Fits (now text) 0 (listing (now bytes)) ⌝ }
+    ensures { λ n. ⌜ Put (now (text .entry)) 0 (listing (now (bytes .entry))) (now (text .exit)) n ⌝ }
+{
+    if bytes.len() % 2 != 0 || MOST_BYTES < bytes.len() {
+        return put_text(text, 0, b"input\n");
+    }
+    let n = bytes.len() / 2;
+    let mut words = room();
+    take_words(bytes, &mut words[..n]);
+    put_words(text, &words[..n])
+}
+
+// The page for the bytes that were read.
+pub fn listing(bytes: &[u8]) -> Page
+    ensures { λ r. ⌜ r ≡ page (listing (now (bytes .entry))) ⌝ }
+{
+    let mut text = blank();
+    let used = put_listing(&mut text, bytes);
+    Page { text, used }
+}
+
+// The page where the input could not be read.
+pub fn unread() -> Page
+    ensures { λ r. ⌜ r ≡ page inputLine ⌝ }
+{
+    let mut text = blank();
+    let used = put_text(&mut text, 0, b"input\n");
+    Page { text, used }
+}

@@ -1,0 +1,70 @@
+// Reads a description from standard input and prints what is listed for it. It only moves bytes: what is printed is decided in the crate `listing`.
+ghost use mathlib.Core.Path.{_≡_};
+ghost use Prim.Native.Nat.{_≤_};
+ghost use lib.ListN.{length};
+ghost use Rattle.site.specs.Reading.{AtMost};
+use libc::STDIN_FILENO;
+use libc::STDOUT_FILENO;
+use listing::Page;
+
+// One byte more than the longest description has, so that more bytes than that are noticed.
+const ROOM: usize = listing::MOST_BYTES + 1;
+
+// So many bytes were read, or a read failed.
+enum Taken {
+    Bytes(usize),
+    Failed,
+}
+
+// Room for the input.
+fn room() -> [u8; ROOM]
+    ensures { λ r. ⌜ length r ≡ 4973 ⌝ }
+{
+    [0; ROOM]
+}
+
+// Reads once.
+fn take(bytes: &mut [u8]) -> Taken
+    ensures { λ r. ⌜ AtMost (length (now (bytes .entry))) r ⌝ }
+{
+    let got = libc::read(STDIN_FILENO, bytes);
+    if got < 0 {
+        return Taken::Failed;
+    }
+    Taken::Bytes(io::count(got, bytes))
+}
+
+// Reads until the input ends or the room is full.
+fn take_all(bytes: &mut [u8]) -> Taken
+    ensures { λ r. ⌜ AtMost (length (now (bytes .entry))) r ⌝ }
+{
+    let mut n = 0;
+    while n < bytes.len() {
+        let Taken::Bytes(more) = take(&mut bytes[n..]) else {
+            return Taken::Failed;
+        };
+        if more == 0 {
+            return Taken::Bytes(n);
+        }
+        n += more;
+    }
+    Taken::Bytes(n)
+}
+
+// The page for what is read.
+fn page() -> Page
+    ensures { λ r. ⌜ r .used ≤ length (r .text) ⌝ }
+{
+    let mut bytes = room();
+    match take_all(&mut bytes) {
+        Taken::Bytes(n) => listing::listing(&bytes[..n]),
+        Taken::Failed => listing::unread(),
+    }
+}
+
+fn main() {
+    let page = page();
+    let text = page.text;
+    let used = page.used;
+    io::write_all(STDOUT_FILENO, &text[..used]);
+}

@@ -1,0 +1,92 @@
+//! The calls: number and count of each, and the lent table afterwards.
+
+use crate::arrangement::is_arrangement;
+use crate::closing::closed;
+use crate::description::{self, Description, MOST_BOARDS};
+use crate::relations::ALL;
+use crate::search::{self, Ending};
+use crate::table::Table;
+
+/// Number 0 is success, else the refusal number; the count is 0 unless said.
+#[derive(Clone, Copy, PartialEq)]
+pub struct Answer {
+    pub number: u32,
+    pub count: u32,
+}
+
+fn success(count: u32) -> Answer {
+    Answer { number: 0, count }
+}
+
+fn refusal(number: u32) -> Answer {
+    Answer { number, count: 0 }
+}
+
+/// Reads a description: 0, or 1 to 5.
+pub fn read(words: &[u16]) -> Answer {
+    match description::read(words) {
+        Ok(_) => success(0),
+        Err(number) => refusal(number),
+    }
+}
+
+/// Fills the lent table with 15: 1 if V is out of range, then 6 if it has not V times V cells.
+pub fn fresh(v: u32, cells: &mut [u8]) -> Answer {
+    if v < 1 || v > MOST_BOARDS as u32 {
+        return refusal(1);
+    }
+    if cells.len() as u64 != v as u64 * v as u64 {
+        return refusal(6);
+    }
+    cells.fill(ALL);
+    success(0)
+}
+
+/// The description and the lent table, or the first refusal among 1 to 6.
+fn read_both(words: &[u16], cells: &[u8]) -> Result<(Description, Table), u32> {
+    let description = description::read(words)?;
+    let table = Table::lent(description.boards, cells)?;
+    Ok((description, table))
+}
+
+/// Replaces the lent table by the largest closed one within it and counts the relations struck;
+/// 7 if that is contradictory.
+pub fn close(words: &[u16], cells: &mut [u8]) -> Answer {
+    let (description, table) = match read_both(words, cells) {
+        Ok(both) => both,
+        Err(number) => return refusal(number),
+    };
+    match closed(&description, &table) {
+        Some(closed) => {
+            cells.copy_from_slice(&closed.cells);
+            success(table.relations() - closed.relations())
+        }
+        None => refusal(7),
+    }
+}
+
+/// Replaces the lent table by the first arrangement within it and counts the tries;
+/// 8 with the tries if there is none, 9 with the budget if that ran out.
+pub fn search(words: &[u16], cells: &mut [u8], budget: u32) -> Answer {
+    let (description, table) = match read_both(words, cells) {
+        Ok(both) => both,
+        Err(number) => return refusal(number),
+    };
+    match search::search(&description, &table, budget) {
+        (Ending::Found(arrangement), tries) => {
+            cells.copy_from_slice(&arrangement.cells);
+            success(tries)
+        }
+        (Ending::NoArrangement, tries) => Answer { number: 8, count: tries },
+        (Ending::BudgetRanOut, _) => Answer { number: 9, count: budget },
+    }
+}
+
+/// Success exactly if the table is an arrangement for the description, else 10.
+pub fn check(words: &[u16], cells: &[u8]) -> Answer {
+    match read_both(words, cells) {
+        Ok((description, table)) if is_arrangement(&description, &table) => success(0),
+        Ok(_) => refusal(10),
+        Err(number) => refusal(number),
+    }
+}

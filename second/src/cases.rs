@@ -1,0 +1,248 @@
+//! The case stream, the answers to its cases, and a readable form of both.
+
+use crate::calls::{self, Answer};
+use crate::description;
+use crate::printing;
+
+#[derive(Clone, Copy, PartialEq, Debug)]
+pub enum Call {
+    Read,
+    Fresh,
+    Close,
+    Search,
+    Check,
+    Site,
+}
+
+/// The calls in the order of their numbers in the stream.
+pub const CALLS: [Call; 6] = [Call::Read, Call::Fresh, Call::Close, Call::Search, Call::Check, Call::Site];
+
+impl Call {
+    /// The first word of an answer to this call.
+    pub fn name(self) -> &'static str {
+        match self {
+            Call::Read => "read",
+            Call::Fresh => "fresh",
+            Call::Close => "close",
+            Call::Search => "search",
+            Call::Check => "check",
+            Call::Site => "site",
+        }
+    }
+}
+
+pub const MOST_WORDS: usize = 65_600;
+pub const MOST_SITE_BYTES: usize = 6_000;
+pub const MOST_CELLS: usize = 512;
+
+/// One case: V for fresh and the budget for search stand in `number`.
+#[derive(Clone, PartialEq)]
+pub struct Case {
+    pub call: Call,
+    pub number: u32,
+    pub words: Vec<u16>,
+    pub bytes: Vec<u8>,
+    pub cells: Vec<u8>,
+}
+
+impl Case {
+    pub fn read(words: &[u16]) -> Case {
+        Case { call: Call::Read, number: 0, words: words.to_vec(), bytes: Vec::new(), cells: Vec::new() }
+    }
+
+    pub fn fresh(v: u32, cells: &[u8]) -> Case {
+        Case { call: Call::Fresh, number: v, words: Vec::new(), bytes: Vec::new(), cells: cells.to_vec() }
+    }
+
+    pub fn close(words: &[u16], cells: &[u8]) -> Case {
+        Case { call: Call::Close, cells: cells.to_vec(), ..Case::read(words) }
+    }
+
+    pub fn search(words: &[u16], cells: &[u8], budget: u32) -> Case {
+        Case { call: Call::Search, number: budget, cells: cells.to_vec(), ..Case::read(words) }
+    }
+
+    pub fn check(words: &[u16], cells: &[u8]) -> Case {
+        Case { call: Call::Check, cells: cells.to_vec(), ..Case::read(words) }
+    }
+
+    pub fn site(bytes: &[u8]) -> Case {
+        Case { call: Call::Site, number: 0, words: Vec::new(), bytes: bytes.to_vec(), cells: Vec::new() }
+    }
+
+    /// The case as bytes of a stream.
+    pub fn stream(&self) -> Vec<u8> {
+        let run = if self.call == Call::Site { self.bytes.clone() } else { little_endian_bytes(&self.words) };
+        let run_length = if self.call == Call::Site { self.bytes.len() } else { self.words.len() };
+        let mut stream = Vec::new();
+        for number in [self.call as u32, self.number, run_length as u32, self.cells.len() as u32] {
+            stream.extend_from_slice(&number.to_le_bytes());
+        }
+        stream.extend_from_slice(&run);
+        stream.extend_from_slice(&self.cells);
+        stream
+    }
+
+    /// The words of the description, for site those that its bytes make.
+    pub fn description_words(&self) -> Vec<u16> {
+        match self.call {
+            Call::Site => printing::little_endian_words(&self.bytes),
+            _ => self.words.clone(),
+        }
+    }
+}
+
+/// Each word as two bytes, the low byte first.
+pub fn little_endian_bytes(words: &[u16]) -> Vec<u8> {
+    words.iter().flat_map(|word| word.to_le_bytes()).collect()
+}
+
+/// Takes the cases off a stream one after another.
+pub struct Cases<'a> {
+    left: &'a [u8],
+}
+
+impl<'a> Cases<'a> {
+    pub fn of(stream: &'a [u8]) -> Cases<'a> {
+        Cases { left: stream }
+    }
+
+    /// The next case; none at the end; a message if the stream is not made of whole cases.
+    pub fn take(&mut self) -> Result<Option<Case>, String> {
+        if self.left.is_empty() {
+            return Ok(None);
+        }
+        let call_number = self.take_number()? as usize;
+        let number = self.take_number()?;
+        let run_length = self.take_number()? as usize;
+        let cell_count = self.take_number()? as usize;
+        let call = *CALLS.get(call_number).ok_or(format!("there is no call {call_number}"))?;
+        let most = if call == Call::Site { MOST_SITE_BYTES } else { MOST_WORDS };
+        if run_length > most || cell_count > MOST_CELLS {
+            return Err("a case is longer than the stream allows".to_string());
+        }
+        let width = if call == Call::Site { 1 } else { 2 };
+        let run = self.take_bytes(run_length * width)?;
+        let cells = self.take_bytes(cell_count)?.to_vec();
+        let case = Case { call, number, words: Vec::new(), bytes: Vec::new(), cells };
+        Ok(Some(match call {
+            Call::Site => Case { bytes: run.to_vec(), ..case },
+            _ => Case { words: printing::little_endian_words(run), ..case },
+        }))
+    }
+
+    fn take_number(&mut self) -> Result<u32, String> {
+        let bytes = self.take_bytes(4)?;
+        Ok(u32::from_le_bytes([bytes[0], bytes[1], bytes[2], bytes[3]]))
+    }
+
+    fn take_bytes(&mut self, count: usize) -> Result<&'a [u8], String> {
+        if self.left.len() < count {
+            return Err("the stream ends inside a case".to_string());
+        }
+        let (taken, left) = self.left.split_at(count);
+        self.left = left;
+        Ok(taken)
+    }
+}
+
+/// What was answered: number and count (site: the text printed), and the table afterwards.
+pub struct Answered {
+    pub answer: Answer,
+    pub cells: Vec<u8>,
+    pub printed: String,
+}
+
+/// Makes the call of the case.
+pub fn answered(case: &Case) -> Answered {
+    let mut cells = case.cells.clone();
+    let mut printed = String::new();
+    let answer = match case.call {
+        Call::Read => calls::read(&case.words),
+        Call::Fresh => calls::fresh(case.number, &mut cells),
+        Call::Close => calls::close(&case.words, &mut cells),
+        Call::Search => calls::search(&case.words, &mut cells, case.number),
+        Call::Check => calls::check(&case.words, &cells),
+        Call::Site => {
+            printed = printing::site(&case.bytes);
+            Answer { number: 0, count: 0 }
+        }
+    };
+    Answered { answer, cells, printed }
+}
+
+/// The text of the answer to a case.
+pub fn answer_text(case: &Case, answered: &Answered) -> String {
+    let Answer { number, count } = answered.answer;
+    let name = case.call.name();
+    match case.call {
+        Call::Site => format!("site\n{}", answered.printed),
+        Call::Read | Call::Check => format!("{name} {number} {count}\n"),
+        _ => format!("{name} {number} {count} {}\n", table_text(&case.cells, &answered.cells)),
+    }
+}
+
+/// `same` if the table afterwards equals the table lent, else its cells as hex digits.
+fn table_text(lent: &[u8], afterwards: &[u8]) -> String {
+    if lent == afterwards {
+        return "same".to_string();
+    }
+    afterwards.iter().map(|&cell| char::from_digit(cell as u32, 16).unwrap_or('?')).collect()
+}
+
+/// The longest run of words or bytes that is shown whole.
+const MOST_SHOWN: usize = 3_000;
+
+/// The case in readable lines: call, number, words in decimal, the lines they make, cells.
+pub fn readable(case: &Case) -> String {
+    let mut text = String::from(case.call.name());
+    match case.call {
+        Call::Fresh => text.push_str(&format!(" of {} boards", case.number)),
+        Call::Search => text.push_str(&format!(" with budget {}", case.number)),
+        _ => {}
+    }
+    text.push('\n');
+    if case.call == Call::Site {
+        text.push_str(&format!("  {} bytes:{}\n", case.bytes.len(), numbers_text(&case.bytes)));
+    }
+    if case.call != Call::Fresh {
+        let words = case.description_words();
+        text.push_str(&format!("  {} words:{}\n", words.len(), numbers_text(&words)));
+        text.push_str(&description_text(&words));
+    }
+    if !matches!(case.call, Call::Read | Call::Site) {
+        text.push_str(&format!("  {} cells:{}\n", case.cells.len(), numbers_text(&case.cells)));
+    }
+    text
+}
+
+/// The numbers in decimal, each after a blank; a very long run is cut.
+fn numbers_text<N: std::fmt::Display>(numbers: &[N]) -> String {
+    let mut text: String = numbers.iter().take(MOST_SHOWN).map(|number| format!(" {number}")).collect();
+    if numbers.len() > MOST_SHOWN {
+        text.push_str(&format!(" and {} more", numbers.len() - MOST_SHOWN));
+    }
+    text
+}
+
+/// The lines of a good description, each with its meaning; else the refusal.
+fn description_text(words: &[u16]) -> String {
+    let description = match description::read(words) {
+        Ok(description) => description,
+        Err(number) => return format!("  refused {number}\n"),
+    };
+    let mut text = format!("  {} boards\n", description.boards);
+    for line in &description.relation_lines {
+        text.push_str(&format!("  ({}, {}) within {}\n", line.p, line.q, set_text(line.set)));
+    }
+    for line in &description.kind_lines {
+        text.push_str(&format!("  {} of kind {} has ways{}\n", line.p, line.code, numbers_text(&line.ways)));
+    }
+    text
+}
+
+/// A set by the letters of its members.
+fn set_text(set: u8) -> String {
+    let members: String = "EABS".chars().enumerate().filter(|(i, _)| set >> i & 1 == 1).map(|(_, name)| name).collect();
+    format!("{set} {{{members}}}")
+}

@@ -1,0 +1,248 @@
+//! Descriptions with names: those to try, those at the limits, and those refused.
+
+use crate::drafts::Draft;
+use crate::sheets::{behind_loose_boards, core_with, core_without};
+
+/// All good descriptions with names.
+pub fn good_drafts() -> Vec<(&'static str, Draft)> {
+    [sites_to_try(), kinds_of_note(), lines_of_note(), limits()].concat()
+}
+
+/// The sites that the rules name.
+fn sites_to_try() -> Vec<(&'static str, Draft)> {
+    let above_both = Draft::of(3).line(0, 2, &[1]).line(1, 2, &[1]);
+    let second_way = Draft::of(4).line(0, 3, &[1]).line(1, 3, &[3]).kind(0, 5, &[1, 2]);
+    vec![
+        ("example", Draft::of(3).kind(0, 5, &[1, 2])),
+        ("one-board", Draft::of(1)),
+        ("two-boards", Draft::of(2)),
+        ("three-boards", Draft::of(3)),
+        ("at-or-above", Draft::of(2).line(0, 1, &[4, 0, 1])),
+        ("at-or-above-both-ways", Draft::of(2).line(0, 1, &[4, 0, 1]).line(1, 0, &[4, 0, 1])),
+        ("two-above-one", above_both.clone()),
+        ("two-above-one-and-side", above_both.line(0, 1, &[3])),
+        ("one-way-listed-twice", Draft::of(2).kind(0, 5, &[1, 1])),
+        ("no-ways-but-above", Draft::of(2).line(0, 1, &[1]).kind(0, 5, &[])),
+        ("second-way-feeds", second_way),
+        ("same-way-same-panel", Draft::of(4).line(1, 3, &[0]).kind(0, 5, &[1]).kind(2, 5, &[3])),
+        ("none-after-three-tries", core_without()),
+        ("found-after-five-tries", core_with()),
+    ]
+}
+
+/// Kind lines that are easy to get wrong.
+fn kinds_of_note() -> Vec<(&'static str, Draft)> {
+    let two = |first: u16, second: u16| Draft::of(4).kind(0, first, &[1]).kind(2, second, &[3]);
+    let twins = Draft::of(6).kind(0, 5, &[2, 3]).kind(1, 5, &[4, 5]);
+    vec![
+        ("panel-among-its-ways", Draft::of(2).kind(0, 5, &[0])),
+        ("way-at-one-board", Draft::of(1).kind(0, 5, &[0])),
+        ("no-ways", Draft::of(3).kind(1, 5, &[])),
+        ("same-panel-same-ways", two(5, 5).line(0, 2, &[0])),
+        ("same-panel-other-kind", two(5, 6).line(0, 2, &[0])),
+        ("other-kind-without-ways", Draft::of(2).kind(0, 5, &[]).kind(1, 6, &[])),
+        ("kind-zero-and-65535", Draft::of(2).kind(0, 0, &[]).kind(1, 65_535, &[])),
+        ("kind-differs-in-high-byte", Draft::of(2).line(0, 1, &[0]).kind(0, 5, &[]).kind(1, 261, &[])),
+        ("one-board-two-kinds", Draft::of(2).kind(0, 5, &[]).kind(0, 6, &[])),
+        ("one-board-two-numbers-of-ways", Draft::of(3).kind(0, 5, &[1]).kind(0, 5, &[1, 2])),
+        ("one-board-same-line-twice", Draft::of(3).kind(0, 5, &[1, 2]).kind(0, 5, &[1, 2])),
+        ("one-board-ways-exchanged", Draft::of(3).kind(0, 5, &[1, 2]).kind(0, 5, &[2, 1])),
+        ("one-board-two-names-of-a-way", Draft::of(3).kind(0, 5, &[1]).kind(0, 5, &[2])),
+        ("different-ways-different-panels", two(5, 5).line(1, 3, &[6, 0])),
+        ("twins", twins.clone()),
+        ("twins-same-panel", twins.clone().line(0, 1, &[0])),
+        ("twins-same-panel-ways-crossed", twins.clone().line(0, 1, &[0]).line(2, 5, &[0])),
+        ("twins-first-way-same", twins.clone().line(2, 4, &[0])),
+        ("twins-second-way-not-same", twins.clone().line(3, 5, &[6, 0])),
+        ("ways-in-a-chain", Draft::of(5).kind(0, 5, &[1]).kind(1, 5, &[2]).kind(2, 5, &[3]).kind(3, 5, &[4])),
+        ("two-panels-feed-each-other", Draft::of(2).kind(0, 5, &[1]).kind(1, 5, &[0])),
+        ("one-way-of-two-panels", Draft::of(3).kind(0, 5, &[2]).kind(1, 5, &[2])),
+        ("one-way-of-two-kinds", Draft::of(3).kind(0, 5, &[2]).kind(1, 6, &[2])),
+        ("board-beside-all-ways", Draft::of(4).line(0, 3, &[1]).line(3, 1, &[3]).line(3, 2, &[3]).kind(0, 5, &[1, 2])),
+        ("board-between-panel-and-way", Draft::of(3).line(0, 2, &[1]).line(2, 1, &[1]).kind(0, 5, &[1])),
+        ("board-above-a-way", Draft::of(4).line(3, 1, &[1]).kind(0, 5, &[1, 2])),
+        ("board-below-one-of-three-ways", Draft::of(5).line(0, 4, &[1]).line(4, 1, &[3]).kind(0, 5, &[1, 2, 3])),
+    ]
+}
+
+/// The pairs p < q of so many boards.
+fn pairs(boards: u16) -> impl Iterator<Item = (u16, u16)> {
+    (0..boards).flat_map(move |p| (p + 1..boards).map(move |q| (p, q)))
+}
+
+/// Relation lines that are easy to get wrong.
+fn lines_of_note() -> Vec<(&'static str, Draft)> {
+    vec![
+        ("empty-set", Draft::of(2).line(0, 1, &[5, 0, 1])),
+        ("board-above-itself", Draft::of(2).line(1, 1, &[1])),
+        ("board-same-as-itself", Draft::of(2).line(1, 1, &[0])),
+        ("all-relations", Draft::of(2).line(0, 1, &[4, 0, 6, 0])),
+        ("line-on-later-board-first", Draft::of(3).line(2, 0, &[1])),
+        ("inverse-of-above", Draft::of(3).line(2, 0, &[7, 1])),
+        ("side-of-side", Draft::of(3).line(0, 1, &[3]).line(1, 2, &[3])),
+        ("above-in-a-ring", Draft::of(3).line(0, 1, &[1]).line(1, 2, &[1]).line(2, 0, &[1])),
+        ("chain-of-six", (0..5).fold(Draft::of(6), |draft, p| draft.line(p, p + 1, &[1]))),
+        ("chain-by-closing-many-times", (0..8).rev().fold(Draft::of(9), |draft, p| draft.line(p, p + 1, &[1]))),
+        ("all-side", pairs(4).fold(Draft::of(4), |draft, (p, q)| draft.line(p, q, &[3]))),
+        ("none-same", pairs(5).fold(Draft::of(5), |draft, (p, q)| draft.line(p, q, &[6, 0]))),
+        ("above-or-below-and-not", Draft::of(2).line(0, 1, &[4, 1, 2]).line(1, 0, &[6, 4, 1, 2])),
+        ("same-pair-many-lines", (0..4).fold(Draft::of(2), |draft, code| draft.line(0, 1, &[6, code / 2 * 2]))),
+        ("core-behind-two-loose-boards", behind_loose_boards(2)),
+        ("more-tries-than-the-budget", behind_loose_boards(4)),
+        ("none-after-10000-tries", none_after_10000_tries()),
+    ]
+}
+
+/// Three groups of boards side by side: 2 loose ones, 4 nearly loose ones, and 6 without an arrangement.
+/// The six take 10 tries to fail, the four with them 329 + 217 * 10 = 2,499, all 4 * (1 + 2,499) = 10,000.
+fn none_after_10000_tries() -> Draft {
+    let failing = [(0, 1, 12), (0, 2, 11), (0, 4, 13), (1, 2, 6), (1, 3, 6), (1, 4, 11), (1, 5, 12)];
+    let failing_too = [(2, 3, 6), (2, 4, 12), (2, 5, 6), (3, 4, 6), (3, 5, 12), (4, 5, 10)];
+    let group = |board: u16| if board < 2 { 0 } else { 1 + board / 6 };
+    let mut draft = Draft::of(12).within(3, 5, 14);
+    for (p, q) in pairs(12).filter(|&(p, q)| group(p) != group(q)) {
+        draft = draft.within(p, q, 8);
+    }
+    for (p, q, set) in failing.into_iter().chain(failing_too) {
+        draft = draft.within(p + 6, q + 6, set);
+    }
+    draft
+}
+
+/// Descriptions at the limits of what is taken.
+fn limits() -> Vec<(&'static str, Draft)> {
+    let ways: Vec<u16> = (1..=8).collect();
+    let fifteen = [4, 4, 4, 4, 4, 4, 4, 0, 1, 2, 3, 0, 1, 2, 3];
+    let lines_128 = (0..128).fold(Draft::of(16), |draft, at| draft.line(at % 16, at / 8, &[6, 3]));
+    let kinds_16 = (0..16).fold(Draft::of(16), |draft, p| draft.kind(p, 5, &[]));
+    vec![
+        ("sixteen-boards", Draft::of(16)),
+        ("fifteen-expression-words", Draft::of(2).line(0, 1, &[6, 6, 6, 6, 6, 6, 6, 6, 6, 6, 6, 6, 6, 6, 1])),
+        ("fifteen-words-of-unions", Draft::of(2).line(0, 1, &fifteen)),
+        ("eight-ways", Draft::of(9).kind(0, 5, &ways)),
+        ("eight-ways-of-sixteen-boards", Draft::of(16).kind(0, 5, &ways)),
+        ("relation-lines-128", lines_128),
+        ("kind-lines-16", kinds_16),
+        ("longest", longest()),
+    ]
+}
+
+/// A good description of 2,486 words that has an arrangement.
+pub fn longest() -> Draft {
+    let ways: Vec<u16> = (1..=8).collect();
+    let mut draft = Draft::of(16);
+    for at in 0..128 {
+        let (p, q) = (at / 8, (at * 5 + 1) % 16);
+        draft = draft.line(p, q, &[4, 4, 4, 4, 4, 4, 4, 0, 1, 2, 3, 3, 2, 1, 0]);
+    }
+    for _ in 0..16 {
+        draft = draft.kind(0, 5, &ways);
+    }
+    draft
+}
+
+/// All refused runs of words with names.
+pub fn refused_runs() -> Vec<(&'static str, Vec<u16>)> {
+    [refused_headers(), refused_lines(), refused_orders()].concat()
+}
+
+/// Refusals 1 and 2.
+fn refused_headers() -> Vec<(&'static str, Vec<u16>)> {
+    let lines_129 = (0..129).fold(Draft::of(2), |draft, _| draft.line(0, 1, &[0]));
+    let kinds_17 = (0..17).fold(Draft::of(2), |draft, _| draft.kind(0, 5, &[]));
+    vec![
+        ("no-words", vec![]),
+        ("one-word", vec![1]),
+        ("five-words", vec![1, 0, 0, 6, 6]),
+        ("no-boards", Draft::of(0).words()),
+        ("seventeen-boards", Draft::of(17).words()),
+        ("boards-65535", vec![65_535, 0, 0, 6, 6, 6]),
+        ("boards-257", vec![257, 0, 0, 6, 6, 6]),
+        ("relation-lines-129", lines_129.words()),
+        ("relation-lines-65535", vec![1, 65_535, 0, 6, 6, 6]),
+        ("kind-lines-17", kinds_17.words()),
+        ("kind-lines-256", vec![1, 0, 256, 6, 6, 6]),
+        ("relation-offset-5", vec![1, 0, 0, 5, 6, 6]),
+        ("relation-offset-7", vec![1, 0, 0, 7, 6, 6]),
+        ("relation-offset-7-of-7", vec![1, 0, 0, 7, 7, 7, 0]),
+        ("kind-offset-5", vec![1, 0, 0, 6, 5, 6]),
+        ("kind-offset-above-total", vec![1, 0, 0, 6, 7, 6]),
+        ("kind-offset-65535", vec![1, 0, 0, 6, 65_535, 6]),
+        ("total-too-small", vec![1, 0, 0, 6, 6, 6, 0]),
+        ("total-too-large", vec![1, 0, 0, 6, 6, 7]),
+        ("total-5", vec![1, 0, 0, 6, 5, 5]),
+        ("all-words-zero", vec![0; 6]),
+        ("all-words-65535", vec![65_535; 6]),
+    ]
+}
+
+/// Refusals 3, 4 and 5, one fault each.
+fn refused_lines() -> Vec<(&'static str, Vec<u16>)> {
+    let good = Draft::of(2).line(0, 1, &[1]);
+    let left = |section: usize, words: &[u16]| {
+        let mut draft = good.clone().kind(0, 5, &[1]);
+        draft.left_over[section] = words.to_vec();
+        draft.words()
+    };
+    vec![
+        ("relation-line-missing", vec![2, 1, 0, 6, 6, 6]),
+        ("relation-line-of-two-words", vec![2, 1, 0, 6, 8, 8, 0, 1]),
+        ("relation-line-without-expression", vec![2, 1, 0, 6, 9, 9, 0, 1, 1]),
+        ("relation-line-into-kind-lines", vec![2, 1, 1, 6, 9, 13, 0, 1, 1, 0, 5, 1, 1]),
+        ("length-0", good.clone().line(0, 1, &[]).words()),
+        ("expression-words-16", Draft::of(2).line(0, 1, &[6, 6, 6, 6, 6, 6, 6, 6, 6, 6, 6, 6, 6, 6, 6, 1]).words()),
+        ("length-65535", vec![2, 1, 0, 6, 10, 10, 0, 1, 65_535, 1]),
+        ("left-over-after-relation-lines", left(0, &[0])),
+        ("left-over-relation-line", left(0, &[0, 1, 1, 0])),
+        ("left-over-after-kind-lines", left(1, &[0])),
+        ("left-over-kind-line", left(1, &[0, 5, 0])),
+        ("kind-line-missing", vec![2, 0, 1, 6, 6, 6]),
+        ("kind-line-of-two-words", vec![2, 0, 1, 6, 6, 8, 0, 5]),
+        ("kind-line-past-its-section", vec![2, 0, 1, 6, 6, 9, 0, 5, 1]),
+        ("nine-ways", Draft::of(16).kind(0, 5, &[1, 2, 3, 4, 5, 6, 7, 8, 9]).words()),
+        ("ways-65535", vec![2, 0, 1, 6, 6, 9, 0, 5, 65_535]),
+        ("first-board-too-high", Draft::of(2).line(2, 1, &[1]).words()),
+        ("second-board-too-high", Draft::of(2).line(0, 2, &[1]).words()),
+        ("board-65535", Draft::of(2).line(65_535, 0, &[1]).words()),
+        ("panel-too-high", Draft::of(2).kind(2, 5, &[1]).words()),
+        ("way-too-high", Draft::of(3).kind(0, 5, &[1, 3]).words()),
+        ("code-8", Draft::of(2).line(0, 1, &[8]).words()),
+        ("code-257", Draft::of(2).line(0, 1, &[257]).words()),
+        ("operand-missing", Draft::of(2).line(0, 1, &[4, 0]).words()),
+        ("operand-of-not-missing", Draft::of(2).line(0, 1, &[6]).words()),
+        ("word-too-many", Draft::of(2).line(0, 1, &[0, 0]).words()),
+        ("operand-in-next-line", Draft::of(2).line(0, 1, &[4, 0]).line(0, 1, &[1]).words()),
+    ]
+}
+
+/// Several faults, of which the first in order decides.
+fn refused_orders() -> Vec<(&'static str, Vec<u16>)> {
+    let mut left_over_then_panel = Draft::of(2).line(0, 1, &[1]).kind(2, 5, &[]);
+    left_over_then_panel.left_over[0] = vec![0];
+    let mut panel_then_left_over = Draft::of(2).kind(2, 5, &[]);
+    panel_then_left_over.left_over[1] = vec![0];
+    let mut code_then_left_over = Draft::of(2).line(0, 1, &[8]);
+    code_then_left_over.left_over[0] = vec![0];
+    vec![
+        ("1-before-2", vec![17, 0, 0, 7, 5, 9]),
+        ("2-before-3", vec![2, 1, 0, 6, 6, 7]),
+        ("3-before-4-and-5-in-a-line", Draft::of(2).line(2, 9, &[8; 16]).words()),
+        ("4-before-5-in-a-line", Draft::of(2).line(0, 2, &[8]).words()),
+        ("5-in-line-0-before-3-in-line-1", Draft::of(2).line(0, 1, &[8]).line(0, 1, &[]).words()),
+        ("5-in-line-0-before-4-in-line-1", Draft::of(2).line(0, 1, &[8]).line(2, 1, &[1]).words()),
+        ("4-in-line-0-before-3-in-line-1", Draft::of(2).line(0, 2, &[1]).line(0, 1, &[]).words()),
+        ("4-in-line-0-before-5-in-line-1", Draft::of(2).line(0, 2, &[1]).line(0, 1, &[9]).words()),
+        ("3-in-line-0-before-4-in-line-1", Draft::of(2).line(0, 1, &[]).line(0, 2, &[1]).words()),
+        ("5-before-left-over", code_then_left_over.words()),
+        ("left-over-before-4-in-kind-line", left_over_then_panel.words()),
+        ("4-in-kind-line-before-left-over", panel_then_left_over.words()),
+        ("5-before-3-in-kind-line", Draft::of(2).line(0, 1, &[8]).kind(0, 5, &[1; 9]).words()),
+        ("5-before-4-in-kind-line", Draft::of(2).line(0, 1, &[0, 0]).kind(0, 5, &[2]).words()),
+        ("3-before-4-in-a-kind-line", Draft::of(2).kind(2, 5, &[3; 9]).words()),
+        ("4-in-kind-line-0-before-3-in-1", Draft::of(2).kind(0, 5, &[2]).kind(0, 5, &[1; 9]).words()),
+        ("3-in-kind-line-0-before-4-in-1", Draft::of(2).kind(0, 5, &[1; 9]).kind(0, 5, &[2]).words()),
+        ("length-16-past-its-section", vec![2, 1, 0, 6, 9, 9, 2, 2, 16]),
+        ("short-line-with-high-board", vec![2, 1, 0, 6, 8, 8, 9, 9]),
+        ("short-kind-line-with-high-way", vec![2, 0, 1, 6, 6, 10, 0, 5, 2, 9]),
+    ]
+}

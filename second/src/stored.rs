@@ -1,0 +1,172 @@
+//! The stored cases: fixed ones first, then made ones.
+
+use crate::calls;
+use crate::cases::{little_endian_bytes, Case, MOST_SITE_BYTES};
+use crate::drafts::Draft;
+use crate::inputs::lengths;
+use crate::making::Maker;
+use crate::named::{good_drafts, refused_runs};
+use crate::relations::{converse, ALL, SINGLES};
+
+/// The cases made after the fixed ones, and their seed.
+const MADE: usize = 5_000;
+const SEED: u64 = 2_486;
+
+/// All stored cases, in order.
+pub fn all() -> Vec<Case> {
+    let mut cases = compositions();
+    cases.extend(triangles());
+    cases.extend(expressions());
+    cases.extend(good_drafts().iter().flat_map(|(_, draft)| calls_of_draft(draft)));
+    cases.extend(refused_runs().iter().flat_map(|(_, words)| calls_of_refused(words)));
+    let inputs = lengths().into_iter().filter(|(_, bytes)| bytes.len() <= MOST_SITE_BYTES);
+    cases.extend(inputs.map(|(_, bytes)| Case::site(&bytes)));
+    cases.extend(wrong_tables());
+    cases.extend(fresh_tables());
+    cases.extend(very_long_runs());
+    let mut maker = Maker::from_seed(SEED);
+    cases.extend((0..MADE).map(|_| maker.next_case()));
+    cases
+}
+
+/// Each pair of sets composes in the closing of a table of three boards.
+fn compositions() -> Vec<Case> {
+    let words = Draft::of(3).words();
+    let mut cases = Vec::new();
+    for first in 0..=ALL {
+        for second in 0..=ALL {
+            let cells = [ALL, first, ALL, converse(first), ALL, second, ALL, converse(second), ALL];
+            cases.push(Case::close(&words, &cells));
+        }
+    }
+    cases
+}
+
+/// Each table of three boards with single relations, E on the diagonal and converses across.
+fn triangles() -> Vec<Case> {
+    let words = Draft::of(3).words();
+    let mut cases = Vec::new();
+    for a in SINGLES {
+        for b in SINGLES {
+            for c in SINGLES {
+                cases.push(Case::check(&words, &[1, a, c, converse(a), 1, b, converse(c), converse(b), 1]));
+            }
+        }
+    }
+    cases
+}
+
+/// All expressions of one, two and three words, good and refused, and some of up to 16 words.
+fn expressions() -> Vec<Case> {
+    let mut all: Vec<Vec<u16>> = (0..=8).map(|code| vec![code]).collect();
+    for first in 0..=8 {
+        all.extend((0..=8).map(|second| vec![first, second]));
+    }
+    for first in 4..=7 {
+        all.extend((0..81).map(|rest| vec![first, rest / 9, rest % 9]));
+    }
+    all.push(vec![6, 4, 1, 2]);
+    all.push(vec![7, 4, 0, 1]);
+    for length in 1..=17 {
+        all.push([vec![6; length - 1], vec![1]].concat());
+        all.push([vec![7; length - 1], vec![1]].concat());
+    }
+    for pairs in 1..=8 {
+        all.push([vec![4; pairs], vec![1; pairs], vec![3]].concat());
+        all.push([[4, 1].repeat(pairs), vec![3]].concat());
+        all.push([[5, 6].repeat(pairs), vec![2; pairs + 1]].concat());
+    }
+    let words = |expression: &Vec<u16>| Draft::of(2).line(0, 1, expression).words();
+    all.iter().map(|expression| Case::close(&words(expression), &[ALL; 4])).collect()
+}
+
+/// Every call of a good description: a full table, budgets around the tries, its arrangement and near ones.
+fn calls_of_draft(draft: &Draft) -> Vec<Case> {
+    let words = draft.words();
+    let full = vec![ALL; draft.boards * draft.boards];
+    let mut found = full.clone();
+    let answer = calls::search(&words, &mut found, 20_000);
+    let mut cases = vec![Case::read(&words), Case::close(&words, &full), Case::site(&little_endian_bytes(&words))];
+    let tries = answer.count;
+    let mut budgets = if words.len() > 200 { vec![] } else { vec![0, 1, tries + 1, 10_000] };
+    budgets.extend([tries.saturating_sub(1), tries]);
+    budgets.sort();
+    budgets.dedup();
+    cases.extend(budgets.into_iter().map(|budget| Case::search(&words, &full, budget)));
+    if answer.number != 9 {
+        cases.push(Case::search(&words, &full, u32::MAX));
+    }
+    let mut closed = full.clone();
+    calls::close(&words, &mut closed);
+    cases.extend([Case::close(&words, &closed), Case::check(&words, &full), Case::check(&words, &found)]);
+    let changes = if words.len() > 200 { 2 } else { 16 };
+    for at in 0..found.len().min(changes) {
+        let mut changed = found.clone();
+        changed[at] = SINGLES[at % 4];
+        cases.push(Case::check(&words, &changed));
+    }
+    cases.extend([Case::search(&words, &found, 0), Case::close(&words, &found)]);
+    cases
+}
+
+/// Every call of a refused description, with a full table and with one that is malformed too.
+fn calls_of_refused(words: &[u16]) -> Vec<Case> {
+    let boards = words.first().map_or(2, |&v| v.min(20) as usize);
+    let full = vec![ALL; boards * boards];
+    let malformed = [16];
+    let mut cases = vec![Case::read(words), Case::site(&little_endian_bytes(words))];
+    for cells in [&full[..], &malformed[..]] {
+        cases.extend([Case::close(words, cells), Case::search(words, cells, 5), Case::check(words, cells)]);
+    }
+    cases
+}
+
+/// Tables of a wrong number of cells, with a cell above 15, with an empty cell, not symmetric,
+/// for a loose, a contradictory and a decided description.
+fn wrong_tables() -> Vec<Case> {
+    let loose = Draft::of(3);
+    let contradictory = Draft::of(3).kind(0, 5, &[1, 1]);
+    let decided = Draft::of(3).kind(0, 5, &[1, 2]);
+    let mut tables: Vec<Vec<u8>> = [0, 1, 4, 8, 10, 16, 256, 512].iter().map(|&count| vec![ALL; count]).collect();
+    for wrong in [0, 1, 8, 14, 16, 31, 128, 255] {
+        for at in [0, 1, 3, 8] {
+            let mut cells = vec![ALL; 9];
+            cells[at] = wrong;
+            tables.push(cells);
+        }
+    }
+    tables.push(vec![0; 9]);
+    tables.push(vec![1; 9]);
+    let mut cases = Vec::new();
+    for draft in [loose, contradictory, decided] {
+        let words = draft.words();
+        for cells in &tables {
+            cases.extend([Case::close(&words, cells), Case::search(&words, cells, 3), Case::check(&words, cells)]);
+        }
+    }
+    cases
+}
+
+/// Fresh tables for V from 0 to 20 and far out of range, with right and wrong numbers of cells.
+fn fresh_tables() -> Vec<Case> {
+    let mut cases = Vec::new();
+    for v in 0..=20u32 {
+        let right = (v * v) as usize;
+        let old: Vec<u8> = (0..=right).map(|at| (at % 256) as u8).collect();
+        cases.push(Case::fresh(v, &old[..right]));
+        cases.push(Case::fresh(v, &old));
+        cases.push(Case::fresh(v, &old[..right.saturating_sub(1)]));
+        cases.push(Case::fresh(v, &vec![ALL; right]));
+    }
+    for v in [17, 256, 65_535, 65_536, 65_537, 65_540, 1 << 31, u32::MAX - 1, u32::MAX] {
+        cases.extend([0, 1, 16].map(|count| Case::fresh(v, &vec![7; count])));
+    }
+    cases
+}
+
+/// 65,542 words with a total of 6, which is that number's low 16 bits.
+fn very_long_runs() -> Vec<Case> {
+    let mut words = Draft::of(1).words();
+    words.resize(65_542, 0);
+    vec![Case::read(&words), Case::check(&words, &[1])]
+}

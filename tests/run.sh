@@ -1,0 +1,40 @@
+#!/bin/sh
+# All that is claimed, from nothing: 'rt ci' proves every crate, tries the edits that must be refused and runs the programs over what is stored; then what
+# it built is tried as users have it. The last line is the verdict over both, 'N passed, 0 failed'.
+set -u
+cd "$(dirname "$0")/.."
+
+room=$(mktemp -d) || exit 2
+trap 'rm -rf "$room"' EXIT
+
+# All that rt ci writes goes on at once, but for its last line, which is held back.
+{ rt ci 2>&1; echo "$?" >"$room/status"; } | awk -v last="$room/last" '
+    NR > 1 { print held; fflush() }
+    { held = $0 }
+    END { print held >last }'
+verdict=$(cat "$room/last")
+if [ "$(cat "$room/status")" -ne 0 ]; then
+    printf '%s\n' "$verdict"
+    exit 1
+fi
+passed=${verdict%% passed,*} failed=0
+
+try() { # NAME COMMAND...
+    name=$1
+    shift
+    if "$@"; then
+        echo "test $name: passed"
+        passed=$((passed + 1))
+    else
+        echo "test $name: FAILED"
+        failed=$((failed + 1))
+    fi
+}
+
+try "the example in C" make --no-print-directory c_example
+try "the examples of sites" sh tests/examples.sh
+try "the program on stored inputs" sh tests/site.sh
+try "the second program's answers" sh tests/second.sh
+
+echo "$passed passed, $failed failed"
+[ "$failed" -eq 0 ]

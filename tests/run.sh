@@ -8,10 +8,15 @@ room=$(mktemp -d) || exit 2
 trap 'rm -rf "$room"' EXIT
 
 # All that rt ci writes goes on at once, but for its last line, which is held back.
-{ rt ci 2>&1; echo "$?" >"$room/status"; } | awk -v last="$room/last" '
-    NR > 1 { print held; fflush() }
-    { held = $0 }
-    END { print held >last }'
+hold_last() {
+    held=''
+    while IFS= read -r line; do
+        [ -z "$held" ] || printf '%s\n' "$held"
+        held=$line
+    done
+    printf '%s\n' "$held" >"$room/last"
+}
+{ rt ci 2>&1; echo "$?" >"$room/status"; } | hold_last
 verdict=$(cat "$room/last")
 if [ "$(cat "$room/status")" -ne 0 ]; then
     printf '%s\n' "$verdict"

@@ -77,7 +77,7 @@ fn solve(
     if !both_filled(bytes, lent) {
         return false;
     }
-    listing::words::take_words(bytes, words);
+    words::take_words(bytes, words);
     tables::copy(lent, cells);
     make(call, number, words, lent, cells);
     true

@@ -26,7 +26,7 @@ use Rattle.rules.proofs.Calls.{given-refused, given-no-table, given-good, arran
 use Rattle.passes.specs.Passes.{Ready}
 use Rattle.sweeps.specs.declared.Swept.{Swept}
 use Rattle.sweeps.specs.declared.Swept.the-variants.{Struck, Emptied}
-use Rattle.closing.specs.Closes.{Closes, closes}
+use Rattle.settling.specs.Closes.{Closes, closes}
 
 -- ---- single cells
 

@@ -6,12 +6,12 @@ ghost use Prim.Native.Nat.{ℕ, _<_};
 ghost use Rattle.rules.specs.Relations.{eachOf, sets, size};
 ghost use Rattle.rules.specs.Calls.{check};
 ghost use Rattle.answers.specs.Answers.{outcome};
-ghost use Rattle.sheet.specs.declared.header.HeaderFound.the-variants.{Good};
+ghost use Rattle.headers.specs.declared.HeaderFound.the-variants.{Good};
 ghost use Rattle.sheet.specs.Found.{descriptionFound};
-ghost use Rattle.closing.specs.Closes.{Working};
+ghost use Rattle.settling.specs.Closes.{Working};
 use answers::Answer;
-use sheet::header::Header;
-use sheet::header::HeaderFound;
+use headers::Header;
+use headers::HeaderFound;
 use sweeps::Swept;
 
 // The refusal of a check: the table is no arrangement.
@@ -47,7 +47,7 @@ fn check_by_copy(h: Header, words: &[u16], table: &[u8], cells: &mut [u8]) -> An
             count: 0,
         };
     }
-    let Swept::Struck(struck) = closing::settle(h, words, cells) else {
+    let Swept::Struck(struck) = settling::settle(h, words, cells) else {
         return Answer {
             number: NO_ARRANGEMENT,
             count: 0,

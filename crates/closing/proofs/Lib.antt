@@ -1,5 +1,3 @@
--- The laws behind the functions of this crate, and what its one call is shown to do.
-pub mod Settling
-pub mod Passing
-pub mod Closings
+-- The laws behind the call, and what it is shown to do.
+pub mod Calling
 pub mod Determined

@@ -1,5 +1,2 @@
--- What the functions of this crate promise.
-pub mod Rounds
-pub mod Lines
-pub mod Closes
+-- Runs of closing calls.
 pub mod Runs

@@ -20,7 +20,7 @@ use Rattle.rules.proofs.Largest.{closing-largest}
 use Rattle.answers.specs.declared.Answer.{Answer}
 use Rattle.answers.specs.Answers.{outcome}
 use Rattle.closing.specs.Runs.{Stage, sheets, Closing, contradictory, Called}
-use Rattle.closing.proofs.Closings.{by-cells, close-good}
+use Rattle.closing.proofs.Calling.{by-cells, close-good}
 
 -- what an answer says and what is left, by whether the largest closed table has an empty cell
 pub record Ends (s : Sheet) (t : List ℕ) (a : Answer) (w : List ℕ) (b : Bool) : Type 0 where

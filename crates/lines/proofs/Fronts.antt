@@ -1,37 +1,30 @@
--- What is found at the front of a section's words, by what `evaluate` and `boards_only` find of the part that is lent to them. Assumes nothing.
-use mathlib.Core.Path.{_≡_, refl, sym, ap, _∙_, subst}
-use mathlib.Core.Bool.{Bool, true, false, not}
+-- What is found at the front of a section's words, by what `evaluate` finds of the part that is lent to it. Assumes nothing.
+use mathlib.Core.Path.{_≡_, refl, _∙_, subst}
 use mathlib.Core.List.{List, [], _∷_}
 use Prim.Native.Nat.{ℕ, _+_, _-_, _≤_, _<_}
 use native.Mathlib.Omega.{arith}
-use borrow.Author.Tests.{not-false}
-use lib.Dec.{T, T-not}
 use lib.ListN.{length, getD, take, drop, length-drop}
 use lib.Seq.{length-take-le}
 use Rattle.rules.specs.Expressions.{value, expression}
-use Rattle.rules.specs.Descriptions.{RelationLine, KindLine, Reading, good, refused, Front, meaning, boardsOnly, relationLine, kindLine}
-use Rattle.rules.proofs.Tests.{clash, T-true, T-false, true-T}
-use Rattle.rules.proofs.Lines.{OnBoards, OnPanel, relation-front, relation-read, kind-read, ways-length, after-line, boardsOnly-in, boardsOnly-out}
+use Rattle.rules.specs.Descriptions.{RelationLine, Reading, good, refused, Front, meaning, relationLine}
+use Rattle.rules.proofs.Tests.{clash}
+use Rattle.rules.proofs.Lines.{OnBoards, relation-front, relation-read, after-line}
 use Rattle.expressions.specs.declared.Expression.{Expression}
 use Rattle.expressions.specs.declared.Expression.the-variants.{Set, Malformed}
+use Rattle.expressions.proofs.Evaluation.{Finds, operand, no-operand}
 use Rattle.lines.specs.declared.refusals.Refusal.{Refusal}
 use Rattle.lines.specs.declared.RelationLine as declared
-use Rattle.lines.specs.declared.KindLine as declared-kind
 use Rattle.lines.specs.declared.RelationFound.the-variants as relation
-use Rattle.lines.specs.declared.KindFound.the-variants as kind
-use Rattle.lines.specs.Found.{refusal, relationFound, kindFound}
-use Rattle.expressions.proofs.Evaluation.{Finds, operand, no-operand}
+use Rattle.lines.specs.Found.{refusal, relationFound}
 
 -- the part that code lends of a line: k words after the first three
-part : (k n : ℕ) → k ≡ n → 3 + k - 3 ≡ n
+pub part : (k n : ℕ) → k ≡ n → 3 + k - 3 ≡ n
 part k n e = omega arith
 
 pub part-length : (k : ℕ) (ws : List ℕ) → 3 + k ≤ length ws → length (take (3 + k - 3) (drop 3 ws)) ≡ k
 part-length k ws h =
     let e : 3 + k - 3 ≡ k = omega arith in
     rw e (length-take-le k (drop 3 ws) (omega (arith, length-drop 3 ws)))
-
--- ---- relation lines
 
 -- a whole expression leaves no word
 left-over : (x : ℕ) (us : List ℕ) → 0 < length us → meaning (value x us) ≡ refused 5
@@ -73,37 +66,3 @@ relation-line-out (refused n) l k p = clash (cc)
 pub relation-refused-out : (r : Reading (Front RelationLine)) (q : Refusal) → relation.Refused q ≡ relationFound r → (n : ℕ) × (r ≡ refused n) × (q ≡ refusal n)
 relation-refused-out (good f) q p = clash (cc)
 relation-refused-out (refused n) q p = (n, refl, cc)
-
--- ---- kind lines
-
--- words that are boards, each of them, or not
-pub some-no-board : (v : ℕ) (ws : List ℕ) (i : ℕ) → i < length ws → v ≤ getD ws i 0 → false ≡ boardsOnly v ws
-some-no-board v ws i h l = sym (T-false (λ t. let a = boardsOnly-out v ws t i h in omega arith))
-
-pub all-boards : (v : ℕ) (ws : List ℕ) → ((i : ℕ) → i < length ws → getD ws i 0 < v) → true ≡ boardsOnly v ws
-all-boards v ws h = sym (T-true (boardsOnly-in v ws h))
-
--- the ways that code lends, tested with an answer that is denied or not
-module _ (v k n : ℕ) (ws : List ℕ) (b : Bool) (width : k ≡ n) (tests : b ≡ boardsOnly v (take (3 + k - 3) (drop 3 ws))) where
-  lent-ways : b ≡ boardsOnly v (take n (drop 3 ws))
-  lent-ways = tests ∙ ap (λ (m : ℕ). boardsOnly v (take m (drop 3 ws))) (part k n width)
-
-  pub ways-denied : not b ≡ true → T (boardsOnly v (take n (drop 3 ws))) → ⊥
-  ways-denied q t = T-not b (true-T q) (subst T (sym lent-ways) t)
-
-  pub ways-granted : not b ≡ false → T (boardsOnly v (take n (drop 3 ws)))
-  ways-granted q = subst T lent-ways (true-T (not-false b q))
-
-pub kind-line-found : (v : ℕ) (ws : List ℕ) → OnPanel v ws
-    → kind.Line (record { p = getD ws 0 0; code = getD ws 1 0; ways = getD ws 2 0 }) (length ws - (3 + getD ws 2 0)) ≡ kindFound (kindLine v ws)
-kind-line-found v ws o = rw (kind-read v ws o) (rw (ways-length v ws (o .fits), after-line (getD ws 2 0) ws))
-
--- what was found, read back
-pub kind-line-out : (r : Reading (Front KindLine)) (l : declared-kind.KindLine) (k : ℕ) → kind.Line l k ≡ kindFound r
-    → (f : Front KindLine) × (r ≡ good f) × (length (f .rest) ≡ k)
-kind-line-out (good f) l k p = (f, refl, cc)
-kind-line-out (refused n) l k p = clash (cc)
-
-pub kind-refused-out : (r : Reading (Front KindLine)) (q : Refusal) → kind.Refused q ≡ kindFound r → (n : ℕ) × (r ≡ refused n) × (q ≡ refusal n)
-kind-refused-out (good f) q p = clash (cc)
-kind-refused-out (refused n) q p = (n, refl, cc)

@@ -1,16 +1,12 @@
--- What reading a line gives, by the definitions of a description. Assumes nothing.
-use mathlib.Core.List.{List}
+-- What reading a relation line gives, by the definitions of a description. Assumes nothing.
 use Prim.Native.Nat.{ℕ}
-use lib.ListN.{length, getD}
+use lib.ListN.{length}
 use Rattle.rules.specs.Descriptions as descriptions
 use Rattle.rules.specs.Descriptions.{Reading, good, refused, Front}
 use Rattle.lines.specs.declared.refusals.Refusal.{Refusal}
 use Rattle.lines.specs.declared.RelationLine.{RelationLine}
-use Rattle.lines.specs.declared.KindLine.{KindLine}
 use Rattle.lines.specs.declared.RelationFound.{RelationFound}
 use Rattle.lines.specs.declared.RelationFound.the-variants as relation
-use Rattle.lines.specs.declared.KindFound.{KindFound}
-use Rattle.lines.specs.declared.KindFound.the-variants as kind
 
 -- a refusal by its number
 abbrev pub refusal : ℕ → Refusal
@@ -20,12 +16,3 @@ refusal n = record { number = n }
 abbrev pub relationFound : Reading (Front descriptions.RelationLine) → RelationFound
 relationFound (good f) = relation.Line (record { p = f .line .p; q = f .line .q; allowed = f .line .allowed }) (length (f .rest))
 relationFound (refused n) = relation.Refused (refusal n)
-
--- a kind line without its ways, which are words of the description, and the number of words after it
-abbrev pub kindFound : Reading (Front descriptions.KindLine) → KindFound
-kindFound (good f) = kind.Line (record { p = f .line .p; code = f .line .code; ways = length (f .line .ways) }) (length (f .rest))
-kindFound (refused n) = kind.Refused (refusal n)
-
--- the numbers that a kind line begins with
-abbrev pub kindFront : List ℕ → KindLine
-kindFront ws = record { p = getD ws 0 0; code = getD ws 1 0; ways = getD ws 2 0 }

@@ -1,3 +1,2 @@
--- What the functions of this crate promise, and kind lines as the code above it has them.
+-- What the functions of this crate promise.
 pub mod Found
-pub mod Panels

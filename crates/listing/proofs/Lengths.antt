@@ -14,12 +14,13 @@ use Rattle.rules.specs.Search.{End, found, none, tries, ended, ranOut, plainOrd
 use Rattle.rules.specs.Calls.{Outcome, refuse, succeed, wellFormed, answer, searching}
 use Rattle.rules.specs.Cases.{filled}
 use Rattle.rules.proofs.Descriptions.{read-numbered}
-use Rattle.sheet.specs.Found.{numbers, numbersFound}
+use Rattle.headers.specs.Found.{numbers, numbersFound}
 use Rattle.sheet.proofs.Described.{described}
 use Rattle.tries.specs.Tries.{mostPairs}
 use Rattle.tries.specs.Pairs.{before}
 use Rattle.tries.proofs.Walking.{places-length, pairs-most}
-use Rattle.listing.specs.Listings.{mostBytes, budget, decimal, signText, lineFeed, boardsText, triesText, refusedText, inputLine, refusal, heading, pairLine, pairsOf, pairs, told, solved, listing, words}
+use Rattle.words.specs.Words.{words}
+use Rattle.listing.specs.Listings.{mostBytes, budget, decimal, signText, lineFeed, boardsText, triesText, refusedText, inputLine, refusal, heading, pairLine, pairsOf, pairs, told, solved, listing}
 use Rattle.listing.specs.declared.Page.{Page}
 use Rattle.listing.specs.Pages.{pageBytes, page}
 use Rattle.listing.proofs.Numbers.{decimal-two, decimal-five}

@@ -9,7 +9,8 @@ use Rattle.rules.specs.Tables.{emptied, total}
 use Rattle.rules.specs.Closing.{reaches, agree, bound6, bound6′, bound7, bound7′, rules1, rules2, rules3, rules4, rules5, rules6, rules7, rules, strike, sweep, sweeps, closing}
 use Rattle.rules.specs.Search.{attempt, choose, places, search, cap}
 use Rattle.rules.specs.Calls.{wellFormed, searching}
-use Rattle.listing.specs.Listings.{words, boardsText, triesText, refusedText, inputLine, digits, decimal, sign, refusal, heading, pairLine, told, solved, listing}
+use Rattle.words.specs.Words.{words}
+use Rattle.listing.specs.Listings.{boardsText, triesText, refusedText, inputLine, digits, decimal, sign, refusal, heading, pairLine, told, solved, listing}
 
 -- words below 256, low byte first
 abbrev bytes : List ℕ → List ℕ

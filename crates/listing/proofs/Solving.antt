@@ -18,11 +18,13 @@ use Rattle.answers.specs.declared.Answer.{Answer}
 use Rattle.answers.specs.Answers.{numbered, outcome}
 use Rattle.answers.proofs.Outcomes.{outcome-determined}
 use Rattle.tables.proofs.Freshness.{fresh-filled}
-use Rattle.sheet.specs.declared.header.Header.{Header}
-use Rattle.sheet.specs.declared.header.HeaderFound.the-variants.{Good}
-use Rattle.sheet.specs.Found.{numbers, numbersFound, descriptionFound}
+use Rattle.headers.specs.declared.Header.{Header}
+use Rattle.headers.specs.declared.HeaderFound.the-variants.{Good}
+use Rattle.headers.specs.Found.{numbers, numbersFound}
+use Rattle.sheet.specs.Found.{descriptionFound}
 use Rattle.search.proofs.Searching.{search-refused}
-use Rattle.listing.specs.Listings.{mostBytes, budget, words, inputLine, refusal, heading, pairs, told, solved, listing}
+use Rattle.words.specs.Words.{words}
+use Rattle.listing.specs.Listings.{mostBytes, budget, inputLine, refusal, heading, pairs, told, solved, listing}
 
 -- ---- an outcome
 

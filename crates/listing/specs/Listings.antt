@@ -10,6 +10,7 @@ use Rattle.rules.specs.Tables.{cell, range, upTo}
 use Rattle.rules.specs.Search.{plainOrder}
 use Rattle.rules.specs.Calls.{Outcome, searching}
 use Rattle.rules.specs.Cases.{filled}
+use Rattle.words.specs.Words.{words}
 
 -- the bytes of the longest description, and the tries that are allowed
 abbrev pub mostBytes : ℕ
@@ -17,12 +18,6 @@ mostBytes = 4972
 
 abbrev pub budget : ℕ
 budget = 10000
-
--- little-endian words, two bytes each
-unfoldable pub words : List ℕ → List ℕ
-words [] = []
-words (low ∷ []) = []
-words (low ∷ high ∷ bytes) = (low + 256 * high) ∷ words bytes
 
 -- ---- what a line is made of
 

@@ -1,7 +1,6 @@
 // What the program prints for the bytes that it read: everything that it decides is decided here.
 mod puts;
 mod texts;
-pub mod words;
 
 ghost use mathlib.Core.Path.{_≡_};
 ghost use lib.ListN.{length, replicate};
@@ -16,15 +15,16 @@ use crate::puts::put_text;
 use crate::texts::put_heading;
 use crate::texts::put_pairs;
 use crate::texts::put_refusal;
-use crate::words::room;
-use crate::words::take_words;
-use sheet::header::HeaderFound;
+use headers::HeaderFound;
 
 // The size of a page: no page is longer.
 pub const PAGE_BYTES: usize = 1024;
 
 // The bytes of the longest description.
 pub const MOST_BYTES: usize = 4972;
+
+// The words of the longest description.
+const MOST_WORDS: usize = MOST_BYTES / 2;
 
 // The tries that are allowed.
 const BUDGET: u32 = 10000;
@@ -33,6 +33,13 @@ const BUDGET: u32 = 10000;
 pub struct Page {
     pub text: [u8; PAGE_BYTES],
     pub used: usize,
+}
+
+// Room for the words of a description.
+fn room() -> [u16; MOST_WORDS]
+    ensures { λ r. ⌜ r ≡ replicate 2486 0 ⌝ }
+{
+    [0; MOST_WORDS]
 }
 
 // A page of zeros.
@@ -81,7 +88,7 @@ fn put_listing(text: &mut [u8], bytes: &[u8]) -> usize
     }
     let n = bytes.len() / 2;
     let mut words = room();
-    take_words(bytes, &mut words[..n]);
+    words::take_words(bytes, &mut words[..n]);
     put_words(text, &words[..n])
 }
 

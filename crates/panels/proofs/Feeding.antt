@@ -20,7 +20,7 @@ use Rattle.rules.proofs.Members.{all-one, one-all, all-append, append-left, app
 use Rattle.rules.proofs.Rules.{all-ways, ways-all, relations-pos, same-small, misses-not, not-misses, bound6-none, says6, said6, bound6′-alone, says6′, said6′, bound6-grows, bound6′-grows}
 use Rattle.passes.specs.Passes.{Filled, Idles, Narrowed, Ready, Pass, Quiet}
 use Rattle.passes.proofs.Passes.{filled-one, pass-still, pass-struck, ready-place}
-use Rattle.lines.specs.Panels.{panel}
+use Rattle.kinds.specs.Panels.{panel}
 use Rattle.panels.specs.Ways.{FirstReaching}
 
 -- ---- whether a set has E or A, by what it has in common with them

@@ -1,15 +1,10 @@
--- What a panel's rules look at in its ways. Assumes nothing.
+-- What rule 6 looks at in a panel's ways. Assumes nothing.
 use mathlib.Core.List.{List}
 use Prim.Native.Nat.{ℕ, _≤_, _<_}
-use lib.Dec.{T, eqb}
+use lib.Dec.{T}
 use lib.ListN.{length, getD}
-use Rattle.rules.specs.Relations.{S}
 use Rattle.rules.specs.Tables.{cell}
-use Rattle.rules.specs.Closing.{unless, reaches}
-
--- {S} for two places among the ways, all relations for one and the same
-abbrev pub apart : ℕ → ℕ → ℕ
-apart i j = unless (eqb i j) S
+use Rattle.rules.specs.Closing.{reaches}
 
 -- i is the first place from `from` on whose way has E or A towards z, or the number of ways if there is none
 pub record FirstReaching (v : ℕ) (t ws : List ℕ) (z from i : ℕ) : Type 0 where

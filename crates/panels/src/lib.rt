@@ -1,47 +1,18 @@
-// What a kind line says of its panel and its ways: they lie below it and beside each other, and nothing else lies below it.
+// What a kind line says of its panel and every board: nothing lies below the panel but its ways and what is below them.
 ghost use mathlib.Core.Path.{_≡_};
 ghost use Prim.Native.Nat.{_≤_, _<_};
 ghost use lib.ListN.{length};
 ghost use Rattle.rules.specs.Relations.{sets};
-ghost use Rattle.rules.specs.Closing.{reaches, rule5, rule6, boardsOf};
-ghost use Rattle.passes.specs.Passes.{Ready, Pass, Quiet, Once};
-ghost use Rattle.lines.specs.Panels.{panel, Below};
-ghost use Rattle.panels.specs.Ways.{apart, FirstReaching};
-use lines::way;
+ghost use Rattle.rules.specs.Closing.{reaches, rule6, boardsOf};
+ghost use Rattle.passes.specs.Passes.{Ready, Pass, Quiet};
+ghost use Rattle.kinds.specs.Panels.{panel, Below};
+ghost use Rattle.panels.specs.Ways.{FirstReaching};
+use kinds::way;
 
 // Same or above, and all but above.
 const AT_OR_ABOVE: u8 = 3;
 
 const NOT_ABOVE: u8 = 13;
-
-// Side for two places among the ways, anything for one and the same.
-fn apart(i: usize, j: usize) -> u8
-    ensures { λ b. ⌜ b ≡ apart i j ⌝ }
-{
-    if i == j {
-        relations::FULL
-    } else {
-        relations::S
-    }
-}
-
-// The ways lie below their panel and beside each other.
-pub fn spread(v: usize, p: usize, ways: &[u16], cells: &mut [u8]) -> u32
-    requires { ⌜ Ready v (now cells) × (p < v) × Below v (now ways) ⌝ }
-    ensures { λ n. ⌜ Once v (rule5 (panel p 0 (now (ways .entry)))) (now (cells .entry)) 0 (now (cells .exit)) n ⌝ }
-{
-    let mut struck = 0;
-    for i in 0..ways.len() {
-        let y = way(ways, i);
-        let k = v * p + y;
-        struck += tables::narrow(cells, k, relations::A);
-        for j in 0..ways.len() {
-            let l = v * y + way(ways, j);
-            struck += tables::narrow(cells, l, apart(i, j));
-        }
-    }
-    struck
-}
 
 // The set has E or A.
 fn reaches(x: u8) -> bool

@@ -19,7 +19,7 @@ use Rattle.rules.proofs.Calls.{given-refused, given-no-table, given-good}
 use Rattle.passes.specs.Passes.{Filled, Ready}
 use Rattle.sweeps.specs.declared.Swept.{Swept}
 use Rattle.sweeps.specs.declared.Swept.the-variants.{Struck, Emptied}
-use Rattle.closing.specs.Closes.{Closes, closes}
+use Rattle.settling.specs.Closes.{Closes, closes}
 use Rattle.tries.specs.declared.Ended.{Ended}
 use Rattle.tries.specs.declared.Ended.the-variants.{Arranged, Nowhere, RanOut}
 use Rattle.tries.specs.Choices.{Bytes}

@@ -6,8 +6,8 @@ use lib.ListN.{length}
 use Rattle.rules.specs.Descriptions.{mostBoards}
 use Rattle.rules.specs.Search.{Order}
 use Rattle.rules.specs.Calls.{Outcome, refuse, succeed}
-use Rattle.sheet.specs.declared.header.Header.{Header}
-use Rattle.sheet.specs.declared.header.HeaderFound.the-variants.{Good}
+use Rattle.headers.specs.declared.Header.{Header}
+use Rattle.headers.specs.declared.HeaderFound.the-variants.{Good}
 use Rattle.sheet.specs.Found.{descriptionFound}
 use Rattle.tries.specs.declared.Ended.{Ended}
 use Rattle.tries.specs.declared.Ended.the-variants.{Arranged, Nowhere, RanOut}

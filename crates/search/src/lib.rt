@@ -8,9 +8,9 @@ ghost use Rattle.answers.specs.Answers.{outcome};
 ghost use Rattle.tries.specs.Tries.{mostPairs};
 ghost use Rattle.search.specs.Rooms.{concluded, Roomy};
 use answers::Answer;
-use sheet::header::Header;
-use sheet::header::HeaderFound;
-use sheet::header::MOST_BOARDS;
+use headers::Header;
+use headers::HeaderFound;
+use headers::MOST_BOARDS;
 use sweeps::Swept;
 use tries::Ended;
 use tries::hunt;
@@ -67,7 +67,7 @@ fn search_in_room(
             count: 0,
         };
     }
-    let Swept::Struck(_) = closing::settle(h, words, first) else {
+    let Swept::Struck(_) = settling::settle(h, words, first) else {
         return Answer {
             number: NOWHERE,
             count: 0,

@@ -9,10 +9,11 @@ use Rattle.rules.proofs.Tests.{clash, true-T}
 use Rattle.rules.proofs.Parts.{tail}
 use Rattle.rules.proofs.Headers.{numbers-out, places-out}
 use Rattle.lines.specs.declared.refusals.Refusal.{Refusal}
-use Rattle.sheet.specs.declared.header.Header.{Header}
-use Rattle.sheet.specs.declared.header.HeaderFound.the-variants.{Good, Refused}
+use Rattle.headers.specs.declared.Header.{Header}
+use Rattle.headers.specs.declared.HeaderFound.the-variants.{Good, Refused}
 use Rattle.lines.specs.Found.{refusal}
-use Rattle.sheet.specs.Found.{numbers, numbersFound, descriptionFound}
+use Rattle.headers.specs.Found.{numbers, numbersFound}
+use Rattle.sheet.specs.Found.{descriptionFound}
 
 -- the words mean s, and its header is h
 pub record Described (ws : List ℕ) (h : Header) (s : Sheet) : Type 0 where

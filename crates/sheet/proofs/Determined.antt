@@ -5,13 +5,10 @@ use Prim.Native.Nat.{ℕ}
 use Rattle.rules.specs.Calls.{reading}
 use Rattle.answers.specs.declared.Answer.{Answer}
 use Rattle.answers.specs.Answers.{numbered}
-use Rattle.sheet.specs.declared.header.HeaderFound.{HeaderFound}
-use Rattle.sheet.specs.Found.{headerFound, descriptionFound}
+use Rattle.headers.specs.declared.HeaderFound.{HeaderFound}
+use Rattle.sheet.specs.Found.{descriptionFound}
 
 module _ (ws : List ℕ) where
-  pub read-header-determined : (r s : HeaderFound) → r ≡ headerFound ws → s ≡ headerFound ws → r ≡ s
-  read-header-determined r s p q = cc
-
   pub description-determined : (r s : HeaderFound) → r ≡ descriptionFound ws → s ≡ descriptionFound ws → r ≡ s
   description-determined r s p q = cc
 

@@ -11,29 +11,14 @@ use Rattle.rules.proofs.Parts.{tail}
 use Rattle.rules.proofs.Readings.{need-passed, need-failed}
 use Rattle.rules.proofs.Headers.{InRange, Placed, numbers-in, numbers-out, places-in, places-out}
 use Rattle.lines.specs.declared.refusals.Refusal.{Refusal}
-use Rattle.sheet.specs.declared.header.Header.{Header}
-use Rattle.sheet.specs.declared.header.HeaderFound.the-variants.{Good, Refused}
+use Rattle.headers.specs.declared.Header.{Header}
+use Rattle.headers.specs.declared.HeaderFound.the-variants.{Good, Refused}
 use Rattle.sheet.specs.declared.sections.SectionFound.{SectionFound}
 use Rattle.sheet.specs.declared.sections.SectionFound.the-variants as sections
 use Rattle.lines.specs.Found.{refusal}
-use Rattle.sheet.specs.Found.{sectionFound, numbers, numbersFound, headerFound, descriptionFound}
+use Rattle.headers.specs.Found.{numbers, numbersFound, headerFound}
+use Rattle.sheet.specs.Found.{sectionFound, descriptionFound}
 use Rattle.sheet.proofs.Described.{described, undescribed}
-
--- ---- the header
-
-pub header-unnumbered : (ws : List ℕ) → (InRange ws → ⊥) → Refused (refusal 1) ≡ headerFound ws
-header-unnumbered ws f =
-    sym (ap (numbersFound ws) (need-failed 1 (numbersFit ws) (need 2 (offsetsFit ws) (good ws)) (λ t. f (numbers-out ws t))))
-
-pub header-misplaced : (ws : List ℕ) → InRange ws → (Placed ws → ⊥) → Refused (refusal 2) ≡ headerFound ws
-header-misplaced ws n f =
-    sym (ap (numbersFound ws) (need-passed 1 (numbersFit ws) (need 2 (offsetsFit ws) (good ws)) (numbers-in ws n)
-    ∙ need-failed 2 (offsetsFit ws) (good ws) (λ t. f (places-out ws t))))
-
-pub header-read : (ws : List ℕ) → InRange ws → Placed ws → Good (numbers ws) ≡ headerFound ws
-header-read ws n p =
-    sym (ap (numbersFound ws) (need-passed 1 (numbersFit ws) (need 2 (offsetsFit ws) (good ws)) (numbers-in ws n)
-    ∙ need-passed 2 (offsetsFit ws) (good ws) (places-in ws p)))
 
 -- ---- the sections
 

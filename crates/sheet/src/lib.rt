@@ -1,30 +1,25 @@
 // Descriptions: a lent run of 16-bit words, header, relation lines and kind lines.
-pub mod header;
 mod sections;
 
 ghost use mathlib.Core.Path.{_≡_};
 ghost use Rattle.rules.specs.Calls.{reading};
 ghost use Rattle.answers.specs.Answers.{numbered};
 ghost use Rattle.sheet.specs.Found.{descriptionFound};
-use crate::header::HeaderFound;
 use crate::sections::SectionFound;
 use answers::Answer;
+use headers::HeaderFound;
 
 // Reads a whole description: its header, once every line has been read, or the first refusal.
 pub fn description(words: &[u16]) -> HeaderFound
     ensures { λ r. ⌜ r ≡ descriptionFound (now (words .entry)) ⌝ }
 {
-    let h = match crate::header::read_header(words) {
+    let h = match headers::read_header(words) {
         HeaderFound::Good(h) => h,
         HeaderFound::Refused(r) => return HeaderFound::Refused(r),
     };
     let boards = h.boards;
     let middle = h.middle;
-    let lines = crate::sections::relation_lines(
-        boards,
-        h.lines,
-        &words[crate::header::WORDS..middle],
-    );
+    let lines = crate::sections::relation_lines(boards, h.lines, &words[headers::WORDS..middle]);
     if let SectionFound::Refused(r) = lines {
         return HeaderFound::Refused(r);
     }

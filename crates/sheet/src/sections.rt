@@ -2,7 +2,7 @@
 ghost use mathlib.Core.Path.{_≡_};
 ghost use Rattle.rules.specs.Descriptions.{relationLine, kindLine, section};
 ghost use Rattle.sheet.specs.Found.{sectionFound, endFound};
-use lines::KindFound;
+use kinds::KindFound;
 use lines::RelationFound;
 use lines::refusals::Refusal;
 use lines::refusals::UNFIT;
@@ -48,7 +48,7 @@ pub(crate) fn kind_lines(v: usize, count: usize, words: &[u16]) -> SectionFound
     let mut at = 0;
     let mut left = count;
     while 0 < left {
-        let rest = match lines::kind_line(v, &words[at..]) {
+        let rest = match kinds::kind_line(v, &words[at..]) {
             KindFound::Line(_, rest) => rest,
             KindFound::Refused(r) => return SectionFound::Refused(r),
         };

@@ -1,17 +1,14 @@
--- Any two outcomes that the contract of `diagonal` permits are equal. Those of `turn` and `sweep` answer one number where they leave one table. Assumes nothing.
+-- Any two outcomes that a contract of this crate permits answer one number where they leave one table. Assumes nothing.
 use mathlib.Core.Path.{_≡_}
 use mathlib.Core.List.{List}
 use Prim.Native.Nat.{ℕ}
-use Rattle.rules.specs.Closing.{rules1, rules2, rules3}
-use Rattle.passes.specs.Passes.{Pass, Quiet, Once}
-use Rattle.passes.proofs.Passes.{kept-determined, once-determined}
+use Rattle.rules.specs.Closing.{rules2, rules3}
+use Rattle.passes.specs.Passes.{Pass, Quiet}
+use Rattle.passes.proofs.Passes.{kept-determined}
 use Rattle.sweeps.specs.declared.Swept.the-variants.{Struck}
 use Rattle.sweeps.specs.Sweeps.{sweeping}
 
-module _ (v : ℕ) (t u w : List ℕ) (m n : ℕ) where
-  pub diagonal-determined : Once v (rules1 v) t 0 u m → Once v (rules1 v) t 0 w n → (u ≡ w) × (m ≡ n)
-  diagonal-determined f g = once-determined f g
-
+module _ (v : ℕ) (t w : List ℕ) (m n : ℕ) where
   pub turn-counted : Pass (Quiet v) v (rules2 v) t 0 w m → Pass (Quiet v) v (rules2 v) t 0 w n → m ≡ n
   turn-counted f g = kept-determined (f .kept) (g .kept)
 

@@ -1,29 +1,19 @@
--- One turn of each loop over boards: a strike by one rule, after those before it. Assumes nothing.
+-- One turn of each loop over pairs and threes of boards: a strike by one rule, after those before it. Assumes nothing.
 use mathlib.Core.Path.{_≡_, ap, _∙_}
 use mathlib.Core.List.{List, _++_, flatMap, List·Memᴰ}
 use Prim.Native.Nat.{ℕ, _+_, _*_, _<_}
 use native.Mathlib.Omega.{arith}
 use lib.Dec.{not-T}
 use lib.ListN.{length, getD}
-use Rattle.rules.specs.Relations.{E, converse, compose}
+use Rattle.rules.specs.Relations.{converse, compose}
 use Rattle.rules.specs.Tables.{cell, Table, emptied, upTo}
 use Rattle.rules.specs.Closing.{Rule, lies, boardsOf, rules3}
 use Rattle.rules.proofs.Members.{All, one-all, all-append, all-over, upTo-out}
 use Rattle.rules.proofs.Composition.{converse-mono, compose-mono}
 use Rattle.rules.proofs.Rules.{boards-all}
 use Rattle.rules.proofs.Inside.{each-place, emptied-in, emptied-out}
-use Rattle.passes.specs.Passes.{Filled, Idles, Narrowed, Ready, Kept, Pass, Quiet, Sound, Once, Clash}
-use Rattle.passes.proofs.Passes.{kept-then, kept-as, kept-strike, kept-clash, pass-next, pass-strike, once-next, once-strike, ready-place, ready-kept}
-
--- ---- each board
-
-abbrev pub itself : ℕ → List Rule
-itself p = lies p p (λ t. E)
-
-pub itself-turn : {v : ℕ} {t w x : List ℕ} {p a b n : ℕ} → Ready v t → p < v → Once v (flatMap itself (upTo p)) t a w b → Narrowed w (v * p + p) E x n
-    → Once v (flatMap itself (upTo (p + 1))) t a x (b + n)
-itself-turn {p = p} r h o m =
-    once-next itself p o (once-strike p p E (o .kept .table) (ready-place (ready-kept r (o .kept)) h h) m)
+use Rattle.passes.specs.Passes.{Filled, Idles, Narrowed, Ready, Kept, Pass, Quiet, Sound, Clash}
+use Rattle.passes.proofs.Passes.{kept-then, kept-as, kept-strike, kept-clash, pass-next, pass-strike, ready-place, ready-kept}
 
 -- ---- each pair of boards
 

@@ -1,25 +1,12 @@
-// The rules that look at boards alone: each board, each pair of boards from both sides, each three boards.
-ghost use Rattle.rules.specs.Closing.{rules1, rules2, rules3};
-ghost use Rattle.passes.specs.Passes.{Ready, Pass, Quiet, Once};
+// The rules that look at boards alone and whose bounds depend on the table: each pair of boards from both sides, each three boards.
+ghost use Rattle.rules.specs.Closing.{rules2, rules3};
+ghost use Rattle.passes.specs.Passes.{Ready, Pass, Quiet};
 ghost use Rattle.sweeps.specs.Sweeps.{sweeping};
 
 // How many relations a sweep struck, or that it came to an empty cell and was left there.
 pub enum Swept {
     Struck(u32),
     Emptied,
-}
-
-// Each board is the same as itself.
-pub fn diagonal(v: usize, cells: &mut [u8]) -> u32
-    requires { ⌜ Ready v (now cells) ⌝ }
-    ensures { λ n. ⌜ Once v (rules1 v) (now (cells .entry)) 0 (now (cells .exit)) n ⌝ }
-{
-    let mut struck = 0;
-    for p in 0..v {
-        let k = v * p + p;
-        struck += tables::narrow(cells, k, relations::E);
-    }
-    struck
 }
 
 // Each pair of boards is the same seen from both sides.

@@ -8,8 +8,8 @@ ghost use Rattle.passes.specs.Passes.{mostCells, Narrowed};
 ghost use Rattle.tables.specs.Copies.{Copied};
 ghost use Rattle.answers.specs.Answers.{outcome};
 use answers::Answer;
+use headers::MOST_BOARDS;
 use lines::refusals::OUT_OF_RANGE;
-use sheet::header::MOST_BOARDS;
 
 // The refusal of a table: it has a wrong number of cells, or a cell that is no set.
 pub const NO_TABLE: u8 = 6;

@@ -12,8 +12,8 @@ use Rattle.rules.specs.Search.{Order, places}
 use Rattle.passes.specs.Passes.{Idles, Ready}
 use Rattle.sweeps.specs.declared.Swept.{Swept}
 use Rattle.sweeps.specs.declared.Swept.the-variants.{Struck, Emptied}
-use Rattle.closing.specs.Closes.{staying, Closes, closes}
-use Rattle.closing.proofs.Closings.{steady-inside}
+use Rattle.settling.specs.Closes.{staying, Closes, closes}
+use Rattle.settling.proofs.Closings.{steady-inside}
 use Rattle.tries.specs.declared.places.Place.{Place}
 use Rattle.tries.specs.declared.choices.Next.{Next}
 use Rattle.tries.specs.Pairs.{place, Pair}

@@ -8,8 +8,8 @@ use Rattle.rules.specs.Closing.{closing}
 use Rattle.rules.specs.Search.{Order, End, found, none, later, ended, ranOut, cap}
 use Rattle.rules.specs.Calls.{Outcome, refuse, succeed}
 use Rattle.passes.specs.Passes.{Ready}
-use Rattle.sheet.specs.declared.header.Header.{Header}
-use Rattle.sheet.specs.declared.header.HeaderFound.the-variants.{Good}
+use Rattle.headers.specs.declared.Header.{Header}
+use Rattle.headers.specs.declared.HeaderFound.the-variants.{Good}
 use Rattle.sheet.specs.Found.{descriptionFound}
 use Rattle.tries.specs.declared.places.Place.{Place}
 use Rattle.tries.specs.declared.choices.Next.{Next}

@@ -14,7 +14,7 @@ use crate::choices::rebuild;
 use crate::places::Place;
 use crate::places::after;
 use crate::places::start;
-use sheet::header::Header;
+use headers::Header;
 use sweeps::Swept;
 
 // How a search ended: with an arrangement or with none, after so many tries, or out of budget.
@@ -61,7 +61,7 @@ fn attempt(
     let k = v * at.p + at.q;
     let i = at.index;
     cells[k] = pick(order, choices[i]);
-    match closing::settle_again(h, words, cells) {
+    match settling::settle_again(h, words, cells) {
         Swept::Struck(_) => onward(v, after(v, at), cells, choices),
         Swept::Emptied => retreat(v, order, first, at, choices, cells),
     }

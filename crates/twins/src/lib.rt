@@ -4,9 +4,9 @@ ghost use Prim.Native.Nat.{_<_};
 ghost use lib.ListN.{length};
 ghost use Rattle.rules.specs.Closing.{rule7};
 ghost use Rattle.passes.specs.Passes.{Ready, Pass, Quiet, Kept};
-ghost use Rattle.lines.specs.Panels.{panel, Below};
+ghost use Rattle.kinds.specs.Panels.{panel, Below};
 ghost use Rattle.twins.specs.Pairs.{paired, joined};
-use lines::way;
+use kinds::way;
 
 // All but same.
 const NOT_SAME: u8 = 14;

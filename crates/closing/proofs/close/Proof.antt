@@ -7,7 +7,7 @@ use lib.Seq.{length-take-le}
 use Rattle.tables.proofs.Freshness.{square-small}
 use Rattle.tables.proofs.Copying.{room-cells}
 use Rattle.sheet.proofs.Described.{described, undescribed}
-use Rattle.closing.proofs.Closings.{close-refused, close-no-table}
+use Rattle.closing.proofs.Calling.{close-refused, close-no-table}
 use borrow.Author.Needs.{needs}
 use Rattle.closing.proofs.close.Statement.{statement}
 use Rattle.closing.proofs.close.Tie as tie

@@ -1,4 +1,4 @@
--- `lines::relation_line` meets its contract: each of its ends is one of the laws of a line's front. Assumes nothing.
+-- `relation_line` meets its contract: each of its ends is one of the laws of a line's front. Assumes nothing.
 use borrow.Author.Needs.{needs}
 use mathlib.Core.Path.{sym, ap, _∙_}
 use mathlib.Core.Logic.{⊎-elim}

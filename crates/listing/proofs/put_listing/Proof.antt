@@ -7,9 +7,10 @@ use native.Mathlib.Omega.{arith}
 use lib.ListN.{length, take, drop, length-append, length-replicate}
 use lib.Seq.{length-take-le, take-at}
 use Rattle.rules.proofs.Tests.{tested}
-use Rattle.listing.specs.Listings.{mostBytes, words, solved, listing}
+use Rattle.words.specs.Words.{words}
+use Rattle.listing.specs.Listings.{mostBytes, solved, listing}
 use Rattle.listing.specs.Pages.{Fits, Put}
-use Rattle.listing.proofs.Bytes.{words-length}
+use Rattle.words.proofs.Bytes.{words-length}
 use Rattle.listing.proofs.Solving.{listing-input, listing-taken}
 use borrow.Author.Needs.{needs}
 use Rattle.listing.proofs.put_listing.Statement.{statement}

@@ -1,4 +1,4 @@
--- `panels::feed` meets its contract: each of its ends is one of the laws of feeding. Assumes nothing.
+-- `feed` meets its contract: each of its ends is one of the laws of feeding. Assumes nothing.
 use mathlib.Core.Path.{sym, _∙_}
 use mathlib.Core.Logic.{⊎-elim}
 use Prim.Native.Nat.{_<_}

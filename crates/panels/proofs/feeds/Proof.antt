@@ -1,4 +1,4 @@
--- `panels::feeds` meets its contract: a pass by rule 6 over the boards that were passed. The measure is the boards left. Assumes nothing.
+-- `feeds` meets its contract: a pass by rule 6 over the boards that were passed. The measure is the boards left. Assumes nothing.
 use mathlib.Core.List.{flatMap}
 use Prim.Native.Nat.{_-_, _≤_}
 use native.Mathlib.Omega.{arith}
@@ -6,7 +6,7 @@ use Rattle.rules.specs.Tables.{upTo}
 use Rattle.rules.specs.Closing.{rule6}
 use Rattle.passes.specs.Passes.{Pass, Quiet}
 use Rattle.passes.proofs.Passes.{pass-start, pass-from, pass-next, pass-whole, kept-few, ready-kept}
-use Rattle.lines.specs.Panels.{panel}
+use Rattle.kinds.specs.Panels.{panel}
 use Rattle.panels.proofs.feeds.Statement.{statement}
 use Rattle.panels.proofs.feeds.Tie as tie
 

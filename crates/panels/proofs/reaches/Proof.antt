@@ -1,4 +1,4 @@
--- `panels::reaches` meets its contract: what the set has in common with E and A is empty exactly if it has neither. Assumes nothing.
+-- `reaches` meets its contract: what the set has in common with E and A is empty exactly if it has neither. Assumes nothing.
 use mathlib.Core.Path.{ap, _∙_}
 use mathlib.Core.Bool.{not}
 use Prim.Native.Nat.{ℕ}

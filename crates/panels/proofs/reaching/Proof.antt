@@ -1,4 +1,4 @@
--- `panels::reaching` meets its contract: no way of the places that were passed reaches the board. The measure is the ways left. Assumes nothing.
+-- `reaching` meets its contract: no way of the places that were passed reaches the board. The measure is the ways left. Assumes nothing.
 use Prim.Native.Nat.{_-_, _<_}
 use native.Mathlib.Omega.{arith}
 use borrow.Author.Needs.{needs}

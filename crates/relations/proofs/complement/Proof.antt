@@ -1,4 +1,4 @@
--- `relations::complement` meets its contract: what a set has and what it lacks make the full set. Assumes nothing.
+-- `complement` meets its contract: what a set has and what it lacks make the full set. Assumes nothing.
 use native.Mathlib.Omega.{arith}
 use Rattle.rules.specs.Relations.{relations, setTo, setOf, full, complement}
 use Rattle.relations.proofs.Bits.{setTo-not}

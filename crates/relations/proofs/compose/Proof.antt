@@ -1,4 +1,4 @@
--- `relations::compose` meets its contract: it reads the entry at SETS times x plus y. Assumes nothing.
+-- `compose` meets its contract: it reads the entry at SETS times x plus y. Assumes nothing.
 use borrow.Author.Needs.{needs}
 use native.Mathlib.Omega.{arith}
 use Rattle.rules.specs.Relations.{relations}

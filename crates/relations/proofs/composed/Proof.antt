@@ -1,4 +1,4 @@
--- `relations::composed` meets its contract: its table is that of the definition. Assumes nothing.
+-- `composed` meets its contract: its table is that of the definition. Assumes nothing.
 use mathlib.Core.Path.{refl}
 use native.Mathlib.Omega.{arith}
 use Rattle.rules.specs.Relations.{relations, singles, composed}

@@ -1,4 +1,4 @@
--- `relations::composition_table` meets its contract: each entry is the union over all pairs of members, computed once for the whole table.
+-- `composition_table` meets its contract: each entry is the union over all pairs of members, computed once for the whole table.
 -- Assumes nothing.
 use mathlib.Core.Path.{_≡_, refl, ap, _∙_}
 use Prim.Native.Nat.{ℕ, _+_, _*_, _/_, _%_, _<_}

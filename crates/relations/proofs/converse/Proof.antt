@@ -1,4 +1,4 @@
--- `relations::converse` meets its contract: the entry of each set is its converse, computed once for the whole table. Assumes nothing.
+-- `converse` meets its contract: the entry of each set is its converse, computed once for the whole table. Assumes nothing.
 use borrow.Author.Needs.{needs}
 use native.Mathlib.Omega.{arith}
 use Rattle.rules.specs.Relations.{relations, sets, has, setTo, setOf, opposite, converse}

@@ -1,4 +1,4 @@
--- `relations::join` meets its contract: the members that either has are the bits that either has. Assumes nothing.
+-- `join` meets its contract: the members that either has are the bits that either has. Assumes nothing.
 use Rattle.rules.specs.Relations.{relations, setOf, join}
 use mathlib.Core.Path.{sym}
 use Rattle.relations.proofs.Bits.{setTo-or}

@@ -1,4 +1,4 @@
--- `relations::meet` meets its contract: the members that both have are the bits that both have. Assumes nothing.
+-- `meet` meets its contract: the members that both have are the bits that both have. Assumes nothing.
 use Rattle.rules.specs.Relations.{relations, setOf, meet}
 use mathlib.Core.Path.{sym}
 use Rattle.relations.proofs.Bits.{setTo-and}

@@ -1,4 +1,4 @@
--- `relations::single` meets its contract: a power of two that is a set is not cut to a byte. Assumes nothing.
+-- `single` meets its contract: a power of two that is a set is not cut to a byte. Assumes nothing.
 use Prim.Native.Nat.{_^_, _<_}
 use native.Mathlib.Nat.{one-mul, mod-eq-of-lt}
 use native.Mathlib.Omega.{arith}

@@ -1,4 +1,4 @@
--- `relations::size` meets its contract: the members are counted by the ones among the bits. Assumes nothing.
+-- `size` meets its contract: the members are counted by the ones among the bits. Assumes nothing.
 use Rattle.rules.specs.Relations.{relations, size}
 use mathlib.Core.Path.{sym}
 use Rattle.relations.proofs.Bits.{count-ones}

@@ -13,7 +13,7 @@ use Rattle.answers.specs.Answers.{outcome}
 use Rattle.passes.specs.Passes.{mostCells}
 use Rattle.tables.proofs.Freshness.{square-small}
 use Rattle.tables.proofs.Copying.{room-cells}
-use Rattle.sheet.specs.declared.header.HeaderFound.the-variants.{Good}
+use Rattle.headers.specs.declared.HeaderFound.the-variants.{Good}
 use Rattle.sheet.specs.Found.{descriptionFound}
 use Rattle.sheet.proofs.Described.{Described, described, undescribed}
 use Rattle.search.proofs.Searching.{search-refused, search-no-table, room-bytes}

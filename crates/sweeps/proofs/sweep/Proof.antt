@@ -1,4 +1,4 @@
--- `sweeps::sweep` meets its contract: each turn is one strike by a bound that grows, and the loops are left where the cell is empty after it. The
+-- `sweep` meets its contract: each turn is one strike by a bound that grows, and the loops are left where the cell is empty after it. The
 -- measures are the boards left. Assumes nothing.
 use mathlib.Core.Path.{_≡_, sym, ap, _∙_, subst}
 use mathlib.Core.List.{flatMap}

@@ -1,4 +1,4 @@
--- `sweeps::turn` meets its contract: each turn is one strike by a bound that grows. The measures are the boards left. Assumes nothing.
+-- `turn` meets its contract: each turn is one strike by a bound that grows. The measures are the boards left. Assumes nothing.
 use mathlib.Core.Path.{sym, subst}
 use mathlib.Core.List.{flatMap}
 use Prim.Native.Nat.{ℕ, _+_, _*_, _-_, _≤_, _<_}

@@ -1,4 +1,4 @@
--- `twins::join` meets its contract: the cells are what strikes by the pairs of ways that were passed make of them. The measure is the ways left.
+-- `join` meets its contract: the cells are what strikes by the pairs of ways that were passed make of them. The measure is the ways left.
 -- Assumes nothing.
 use mathlib.Core.List.{flatMap}
 use Prim.Native.Nat.{_+_, _*_, _-_, _≤_, _<_}

@@ -1,4 +1,4 @@
--- `twins::paired` meets its contract: each pair of ways that was passed has E. The measure is the ways left. Assumes nothing.
+-- `paired` meets its contract: each pair of ways that was passed has E. The measure is the ways left. Assumes nothing.
 use Prim.Native.Nat.{ℕ, _+_, _*_, _-_, _≤_, _<_}
 use native.Mathlib.Omega.{arith}
 use borrow.Author.Count.{below-none, below-more}

@@ -1,4 +1,4 @@
--- `twins::twin` meets its contract: each of its ends is one of the laws of two kind lines. Assumes nothing.
+-- `twin` meets its contract: each of its ends is one of the laws of two kind lines. Assumes nothing.
 use borrow.Author.Needs.{needs}
 use borrow.Author.Tests.{not-true, not-false}
 use mathlib.Core.Path.{sym, _∙_}
@@ -11,7 +11,7 @@ use Rattle.rules.proofs.Tests.{clash, tested, unequal, equal}
 use Rattle.rules.proofs.Sets.{single-small}
 use Rattle.rules.proofs.Rules.{same-small}
 use Rattle.passes.proofs.Passes.{place-few, ready-place}
-use Rattle.lines.specs.Panels.{panel}
+use Rattle.kinds.specs.Panels.{panel}
 use Rattle.twins.proofs.Twinning.{twin-apart, twin-struck, twin-open, twin-joined}
 use Rattle.twins.proofs.twin.Statement.{statement}
 use Rattle.twins.proofs.twin.Tie as tie

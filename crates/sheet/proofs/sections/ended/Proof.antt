@@ -1,4 +1,4 @@
--- `sections::ended` meets its contract, by whether a word is left over. Assumes nothing.
+-- `ended` meets its contract, by whether a word is left over. Assumes nothing.
 use Rattle.sheet.proofs.Filled.{end-over, end-filled}
 use Rattle.sheet.proofs.sections.ended.Statement.{statement}
 use Rattle.sheet.proofs.sections.ended.Tie as tie

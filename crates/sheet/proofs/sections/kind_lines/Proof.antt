@@ -1,11 +1,11 @@
--- `sections::kind_lines` meets its contract: from each line on, the section comes to what it comes to from the start. The measure is the lines
+-- `kind_lines` meets its contract: from each line on, the section comes to what it comes to from the start. The measure is the lines
 -- left. Assumes nothing.
 use borrow.Author.Needs.{needs}
 use mathlib.Core.Path.{sym, _∙_}
 use native.Mathlib.Omega.{arith}
 use Rattle.rules.specs.Descriptions.{kindLine}
 use Rattle.rules.proofs.Lines.{kind-suffix}
-use Rattle.lines.proofs.Fronts.{kind-line-out, kind-refused-out}
+use Rattle.kinds.proofs.Fronts.{kind-line-out, kind-refused-out}
 use Rattle.rules.proofs.Walks.{Walk, walk-start}
 use Rattle.sheet.proofs.Filled.{found-refused, found-next, found-end}
 use Rattle.sheet.proofs.sections.kind_lines.Statement.{statement}

@@ -1,4 +1,4 @@
--- `sections::relation_lines` meets its contract: from each line on, the section comes to what it comes to from the start. The measure is the lines
+-- `relation_lines` meets its contract: from each line on, the section comes to what it comes to from the start. The measure is the lines
 -- left. Assumes nothing.
 use borrow.Author.Needs.{needs}
 use mathlib.Core.Path.{sym, _∙_}

@@ -1,4 +1,4 @@
--- `choices::onward` meets its contract: each pair passed has at most one relation, which its byte keeps. The measure is the pairs left. Assumes nothing.
+-- `onward` meets its contract: each pair passed has at most one relation, which its byte keeps. The measure is the pairs left. Assumes nothing.
 use mathlib.Core.Path.{subst}
 use Prim.Native.Nat.{ℕ, _-_, _≤_, _<_}
 use native.Mathlib.Omega.{arith}

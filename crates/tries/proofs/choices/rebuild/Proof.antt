@@ -1,4 +1,4 @@
--- `choices::rebuild` meets its contract: the choices at the pairs passed are written into the first table. The measure is the pairs left. Assumes nothing.
+-- `rebuild` meets its contract: the choices at the pairs passed are written into the first table. The measure is the pairs left. Assumes nothing.
 use mathlib.Core.Path.{sym, _∙_}
 use Prim.Native.Nat.{_-_}
 use native.Mathlib.Omega.{arith}

@@ -1,4 +1,4 @@
--- `places::after` meets its contract: the next pair is one of the same board, or the first of the next. Assumes nothing.
+-- `after` meets its contract: the next pair is one of the same board, or the first of the next. Assumes nothing.
 use mathlib.Core.Path.{refl}
 use borrow.Author.Needs.{needs}
 use native.Mathlib.Omega.{arith}

@@ -1,4 +1,4 @@
--- `places::before` meets its contract: the pair before is one of the same board, or the last of the board before. Assumes nothing.
+-- `before` meets its contract: the pair before is one of the same board, or the last of the board before. Assumes nothing.
 use borrow.Author.Needs.{needs}
 use Rattle.tries.proofs.Walking.{later-board, last-pair}
 use Rattle.tries.proofs.places.before.Statement.{statement}

@@ -1,4 +1,4 @@
--- `places::start` meets its contract. Assumes nothing.
+-- `start` meets its contract. Assumes nothing.
 use mathlib.Core.Path.{refl}
 use Rattle.tries.proofs.Walking.{first-pair}
 use Rattle.tries.proofs.places.start.Statement.{statement}

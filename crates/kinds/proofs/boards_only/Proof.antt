@@ -1,0 +1,62 @@
+-- `boards_only` meets its contract: each word that was passed is a board. The measure is what is left of the words. Assumes nothing.
+use borrow.Author.Needs.{needs}
+use Prim.Native.Nat.{ℕ, _-_, _≤_, _<_}
+use native.Mathlib.Omega.{arith}
+use borrow.Author.Count.{below-more}
+use lib.ListN.{length, getD}
+use Rattle.kinds.proofs.Fronts.{some-no-board, all-boards}
+use Rattle.kinds.proofs.boards_only.Statement.{statement}
+use Rattle.kinds.proofs.boards_only.Tie as tie
+
+abbrev Inv-loop : tie.InvT-loop
+Inv-loop v ways i₀ i = (i ≤ length ways) × ((k : ℕ) → k < i → getD ways k 0 < v)
+
+abbrev μ-loop : tie.MeasureT-loop
+μ-loop v ways i₀ i = length ways - i
+
+loop-holds : tie.Need-loop-holds Inv-loop μ-loop
+loop-holds c = (omega arith, λ k h. let z : ⊥ = omega arith in absurd z)
+
+mul-wide : tie.Need-mul-wide Inv-loop μ-loop
+mul-wide c = search needs
+
+shared-slice-read-wide : tie.Need-shared-slice-read-wide Inv-loop μ-loop
+shared-slice-read-wide c = omega arith
+
+wide-requires : tie.Need-wide-requires Inv-loop μ-loop
+wide-requires c κs = search needs
+
+returns : tie.Need-returns Inv-loop μ-loop
+returns c =
+    let start = c .before .before .before .before .before .before in
+    some-no-board (start .args .v) (start .args .ways .now) (c .before .before .before .before .loop .i) (omega arith) (omega arith)
+
+add-i : tie.Need-add-i Inv-loop μ-loop
+add-i c = omega arith
+
+loop-less : tie.Need-loop-less Inv-loop μ-loop
+loop-less c = omega arith
+
+loop-again : tie.Need-loop-again Inv-loop μ-loop
+loop-again c = (omega arith, below-more _ _ (c .before .before .before .before .loop .inv .1) (omega arith))
+
+returns-2 : tie.Need-returns-2 Inv-loop μ-loop
+returns-2 c =
+    let start = c .before .before .before in
+    all-boards (start .args .v) (start .args .ways .now) (λ k h. c .before .loop .inv .1 k (omega arith))
+
+pub boards-only-spec : {M : Type 1} → statement M
+boards-only-spec =
+    tie.close
+    (tie.spec
+    Inv-loop
+    μ-loop
+    loop-holds
+    mul-wide
+    shared-slice-read-wide
+    wide-requires
+    returns
+    add-i
+    loop-less
+    loop-again
+    returns-2)

@@ -16,6 +16,9 @@ hold_last() {
     done
     printf '%s\n' "$held" >"$room/last"
 }
+# rt waits for each batch of RT_JOBS to end, so twice as many as there are processors leave none of them idle.
+: "${RT_JOBS:=$(($(nproc) * 2))}"
+export RT_JOBS
 { rt ci 2>&1; echo "$?" >"$room/status"; } | hold_last
 verdict=$(cat "$room/last")
 if [ "$(cat "$room/status")" -ne 0 ]; then

@@ -78,7 +78,7 @@ fn solve(
         return false;
     }
     words::take_words(bytes, words);
-    tables::copy(lent, cells);
+    copies::copy(lent, cells);
     make(call, number, words, lent, cells);
     true
 }

@@ -35,7 +35,7 @@ fn check_by_copy(h: Header, words: &[u16], table: &[u8], cells: &mut [u8]) -> An
     requires { ⌜ (Good h ≡ descriptionFound (now words)) × Working (h .boards) (now table) (now cells) ⌝ }
     ensures { λ a. ⌜ outcome a (now (table .entry)) ≡ check (now (words .entry)) (now (table .entry)) ⌝ }
 {
-    if !tables::copied(table, cells) {
+    if !copies::copied(table, cells) {
         return Answer {
             number: tables::NO_TABLE,
             count: 0,
@@ -86,6 +86,6 @@ pub fn check(words: &[u16], table: &[u8]) -> Answer
             count: 0,
         };
     }
-    let mut cells = tables::room();
+    let mut cells = copies::room();
     check_by_copy(h, words, table, &mut cells[..n])
 }

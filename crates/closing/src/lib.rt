@@ -18,7 +18,7 @@ fn close_by_copy(h: Header, words: &[u16], table: &mut [u8], cells: &mut [u8]) -
     requires { ⌜ (Good h ≡ descriptionFound (now words)) × Working (h .boards) (now table) (now cells) ⌝ }
     ensures { λ a. ⌜ outcome a (now (table .exit)) ≡ close (now (words .entry)) (now (table .entry)) ⌝ }
 {
-    if !tables::copied(table, cells) {
+    if !copies::copied(table, cells) {
         return Answer {
             number: tables::NO_TABLE,
             count: 0,
@@ -30,7 +30,7 @@ fn close_by_copy(h: Header, words: &[u16], table: &mut [u8], cells: &mut [u8]) -
             count: 0,
         };
     };
-    tables::copy(cells, table);
+    copies::copy(cells, table);
     Answer {
         number: 0,
         count: struck,
@@ -58,6 +58,6 @@ pub fn close(words: &[u16], table: &mut [u8]) -> Answer
             count: 0,
         };
     }
-    let mut cells = tables::room();
+    let mut cells = copies::room();
     close_by_copy(h, words, table, &mut cells[..n])
 }

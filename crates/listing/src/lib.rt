@@ -74,7 +74,7 @@ fn put_words(text: &mut [u8], words: &[u16]) -> usize
     };
     let v = h.boards;
     let n = v * v;
-    let mut table = tables::room();
+    let mut table = copies::room();
     put_solved(text, words, v, &mut table[..n])
 }
 

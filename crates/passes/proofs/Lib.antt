@@ -1,2 +1,3 @@
 -- The laws of passes.
 pub mod Passes
+pub mod Cells

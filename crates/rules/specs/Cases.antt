@@ -128,22 +128,6 @@ cases =
     -- a panel's ways are all of its ways: 0 has way 1, and 2 cannot be below 0 and beside 1
     ∷ clashes 3 (is 0 above 2 ∷ is 1 side 2 ∷ []) (feeds 0 (1 ∷ []) ∷ [])
     ∷ exhausts 3 (is 0 above 2 ∷ is 1 side 2 ∷ []) (feeds 0 (1 ∷ []) ∷ []) 0
-    -- panels that are one board have the same ways: 0 has ways 1 and 2, 3 has ways 4 and 5, same code, 0 = 3
-    ∷ closes 6 (is 0 same 3 ∷ []) (feeds 0 (1 ∷ 2 ∷ []) ∷ feeds 3 (4 ∷ 5 ∷ []) ∷ []) 108
-    (1 ∷ 2 ∷ 2 ∷ 1 ∷ 2 ∷ 2 ∷ 4 ∷ 1 ∷ 8 ∷ 4 ∷ 1 ∷ 8 ∷ 4 ∷ 8 ∷ 1 ∷ 4 ∷ 8 ∷ 1
-    ∷ 1 ∷ 2 ∷ 2 ∷ 1 ∷ 2 ∷ 2 ∷ 4 ∷ 1 ∷ 8 ∷ 4 ∷ 1 ∷ 8 ∷ 4 ∷ 8 ∷ 1 ∷ 4 ∷ 8 ∷ 1 ∷ [])
-    -- and panels with a pair of ways that is not one board are not one board: 1 side 4
-    ∷ closes 6 (is 1 side 4 ∷ []) (feeds 0 (1 ∷ 2 ∷ []) ∷ feeds 3 (4 ∷ 5 ∷ []) ∷ []) 70
-    (1 ∷ 2 ∷ 2 ∷ 14 ∷ 10 ∷ 15 ∷ 4 ∷ 1 ∷ 8 ∷ 12 ∷ 8 ∷ 15 ∷ 4 ∷ 8 ∷ 1 ∷ 15 ∷ 15 ∷ 15
-    ∷ 14 ∷ 10 ∷ 15 ∷ 1 ∷ 2 ∷ 2 ∷ 12 ∷ 8 ∷ 15 ∷ 4 ∷ 1 ∷ 8 ∷ 15 ∷ 15 ∷ 15 ∷ 4 ∷ 8 ∷ 1 ∷ [])
-    -- no arrangement, as only the tries show
-    ∷ exhausts 5
-    (either 0 above below 3 ∷ either 1 same side 2 ∷ either 1 below side 3 ∷ either 1 above below 4 ∷ either 2 above side 3
-    ∷ either 2 above below 4 ∷ notBelow 3 4 ∷ [])
-    (feeds 0 (4 ∷ []) ∷ []) 3
-    -- an arrangement after tries that failed: what they struck comes back
-    ∷ finds 5 (either 1 below side 3 ∷ notBelow 1 4 ∷ either 2 above below 3 ∷ either 2 above below 4 ∷ either 3 below side 4 ∷ []) [] 5
-    (1 ∷ 1 ∷ 4 ∷ 4 ∷ 8 ∷ 1 ∷ 1 ∷ 4 ∷ 4 ∷ 8 ∷ 2 ∷ 2 ∷ 1 ∷ 2 ∷ 2 ∷ 2 ∷ 2 ∷ 4 ∷ 1 ∷ 8 ∷ 8 ∷ 8 ∷ 4 ∷ 8 ∷ 1 ∷ [])
     -- the check accepts 0 = 1 for "0 at or above 1", and rejects it for "0 above 1"; it rejects a table that is not single
     ∷ accepts 2 (atOrAbove 0 1 ∷ []) [] (1 ∷ 1 ∷ 1 ∷ 1 ∷ [])
     ∷ rejects 2 (is 0 above 1 ∷ []) [] (1 ∷ 1 ∷ 1 ∷ 1 ∷ [])
@@ -166,4 +150,25 @@ cases =
     ∷ answers (describe 1 ((1 ∷ 0 ∷ 1 ∷ 8 ∷ []) ∷ []) []) 4
     -- the first faulty line decides: a 5 in line 0 comes before a 3 in line 1
     ∷ answers (describe 1 ((0 ∷ 0 ∷ 1 ∷ 8 ∷ []) ∷ (0 ∷ 0 ∷ 0 ∷ []) ∷ []) []) 5
+    ∷ []
+
+-- Larger sites, which take longer to compute.
+abbrev pub larger : List Case
+larger =
+    -- panels that are one board have the same ways: 0 has ways 1 and 2, 3 has ways 4 and 5, same code, 0 = 3
+    closes 6 (is 0 same 3 ∷ []) (feeds 0 (1 ∷ 2 ∷ []) ∷ feeds 3 (4 ∷ 5 ∷ []) ∷ []) 108
+    (1 ∷ 2 ∷ 2 ∷ 1 ∷ 2 ∷ 2 ∷ 4 ∷ 1 ∷ 8 ∷ 4 ∷ 1 ∷ 8 ∷ 4 ∷ 8 ∷ 1 ∷ 4 ∷ 8 ∷ 1
+    ∷ 1 ∷ 2 ∷ 2 ∷ 1 ∷ 2 ∷ 2 ∷ 4 ∷ 1 ∷ 8 ∷ 4 ∷ 1 ∷ 8 ∷ 4 ∷ 8 ∷ 1 ∷ 4 ∷ 8 ∷ 1 ∷ [])
+    -- and panels with a pair of ways that is not one board are not one board: 1 side 4
+    ∷ closes 6 (is 1 side 4 ∷ []) (feeds 0 (1 ∷ 2 ∷ []) ∷ feeds 3 (4 ∷ 5 ∷ []) ∷ []) 70
+    (1 ∷ 2 ∷ 2 ∷ 14 ∷ 10 ∷ 15 ∷ 4 ∷ 1 ∷ 8 ∷ 12 ∷ 8 ∷ 15 ∷ 4 ∷ 8 ∷ 1 ∷ 15 ∷ 15 ∷ 15
+    ∷ 14 ∷ 10 ∷ 15 ∷ 1 ∷ 2 ∷ 2 ∷ 12 ∷ 8 ∷ 15 ∷ 4 ∷ 1 ∷ 8 ∷ 15 ∷ 15 ∷ 15 ∷ 4 ∷ 8 ∷ 1 ∷ [])
+    -- no arrangement, as only the tries show
+    ∷ exhausts 5
+    (either 0 above below 3 ∷ either 1 same side 2 ∷ either 1 below side 3 ∷ either 1 above below 4 ∷ either 2 above side 3
+    ∷ either 2 above below 4 ∷ notBelow 3 4 ∷ [])
+    (feeds 0 (4 ∷ []) ∷ []) 3
+    -- an arrangement after tries that failed: what they struck comes back
+    ∷ finds 5 (either 1 below side 3 ∷ notBelow 1 4 ∷ either 2 above below 3 ∷ either 2 above below 4 ∷ either 3 below side 4 ∷ []) [] 5
+    (1 ∷ 1 ∷ 4 ∷ 4 ∷ 8 ∷ 1 ∷ 1 ∷ 4 ∷ 4 ∷ 8 ∷ 2 ∷ 2 ∷ 1 ∷ 2 ∷ 2 ∷ 2 ∷ 2 ∷ 4 ∷ 1 ∷ 8 ∷ 8 ∷ 8 ∷ 4 ∷ 8 ∷ 1 ∷ [])
     ∷ []

@@ -30,7 +30,7 @@ fn conclude(ended: Ended, budget: u32, cells: &[u8], table: &mut [u8]) -> Answer
 {
     match ended {
         Ended::Arranged(tries) => {
-            tables::copy(cells, table);
+            copies::copy(cells, table);
             Answer {
                 number: 0,
                 count: tries,
@@ -61,7 +61,7 @@ fn search_in_room(
     requires { ⌜ Roomy h (now words) (now order) (now table) (now first) (now choices) (now cells) ⌝ }
     ensures { λ a. ⌜ outcome a (now (table .exit)) ≡ searching (now (order .entry)) (now (words .entry)) (now (table .entry)) budget ⌝ }
 {
-    if !tables::copied(table, first) {
+    if !copies::copied(table, first) {
         return Answer {
             number: tables::NO_TABLE,
             count: 0,
@@ -73,7 +73,7 @@ fn search_in_room(
             count: 0,
         };
     };
-    tables::copy(first, cells);
+    copies::copy(first, cells);
     let ended = hunt(h, words, order, budget, first, choices, cells);
     conclude(ended, budget, cells, table)
 }
@@ -115,9 +115,9 @@ pub fn search(words: &[u16], table: &mut [u8], budget: u32) -> Answer
         };
     }
     let order = plain_order();
-    let mut first = tables::room();
+    let mut first = copies::room();
     let mut choices = room();
-    let mut cells = tables::room();
+    let mut cells = copies::room();
     search_in_room(
         h,
         words,

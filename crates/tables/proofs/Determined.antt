@@ -1,12 +1,9 @@
 -- Any two answers and tables that a contract of this crate permits are equal. Assumes nothing.
 use mathlib.Core.Path.{_≡_, sym, _∙_}
-use mathlib.Core.Bool.{Bool}
 use mathlib.Core.List.{List}
 use Prim.Native.Nat.{ℕ}
-use lib.ListN.{replicate}
 use Rattle.rules.specs.Calls.{fresh}
-use Rattle.passes.specs.Passes.{mostCells, Narrowed}
-use Rattle.tables.specs.Copies.{Copied}
+use Rattle.passes.specs.Passes.{Narrowed}
 use Rattle.answers.specs.declared.Answer.{Answer}
 use Rattle.answers.specs.Answers.{outcome}
 use Rattle.answers.proofs.Outcomes.{outcome-determined}
@@ -16,12 +13,3 @@ fresh-determined v t a b u w p q = outcome-determined a b u w (p ∙ sym q)
 
 pub narrow-determined : (t : List ℕ) (k b : ℕ) (u w : List ℕ) (m n : ℕ) → Narrowed t k b u m → Narrowed t k b w n → (m ≡ n) × (u ≡ w)
 narrow-determined t k b u w m n p q = (p .struck ∙ sym (q .struck), p .cells ∙ sym (q .cells))
-
-pub copied-determined : (t u w : List ℕ) (a b : Bool) → Copied t u a → Copied t w b → (a ≡ b) × (u ≡ w)
-copied-determined t u w a b p q = (p .said ∙ sym (q .said), p .copy ∙ sym (q .copy))
-
-pub copy-determined : (from u w : List ℕ) → u ≡ from → w ≡ from → u ≡ w
-copy-determined from u w p q = p ∙ sym q
-
-pub room-determined : (u w : List ℕ) → u ≡ replicate mostCells 0 → w ≡ replicate mostCells 0 → u ≡ w
-room-determined u w p q = p ∙ sym q

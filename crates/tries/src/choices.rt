@@ -94,7 +94,7 @@ pub(crate) fn rebuild(
     requires { ⌜ Ready v (now first) × (0 < v) × Order (now order) × Bytes v (now choices) × (count ≤ length (places v)) × (length (now cells) ≡ length (now first)) ⌝ }
     ensures { λ _. ⌜ now (cells .exit) ≡ rebuilt v (now (order .entry)) (now (choices .entry)) (now (first .entry)) count ⌝ }
 {
-    tables::copy(first, cells);
+    copies::copy(first, cells);
     let mut at = start(v);
     while at.index < count {
         let k = v * at.p + at.q;

@@ -6,7 +6,7 @@ use lib.ListN.{getD}
 use Rattle.rules.specs.Relations.{sets}
 use Rattle.passes.specs.Passes.{Ready}
 use Rattle.sheet.proofs.Described.{described}
-use Rattle.tables.proofs.Copying.{copied-none, copied-ready}
+use Rattle.copies.proofs.Copying.{copied-none, copied-ready}
 use Rattle.checking.proofs.Checking.{check-no-table, check-several, check-emptied, check-struck, check-idle}
 use borrow.Author.Needs.{needs}
 use Rattle.checking.proofs.check_by_copy.Statement.{statement}

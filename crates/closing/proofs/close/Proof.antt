@@ -5,7 +5,7 @@ use native.Mathlib.Omega.{arith}
 use lib.ListN.{length, take}
 use lib.Seq.{length-take-le}
 use Rattle.tables.proofs.Freshness.{square-small}
-use Rattle.tables.proofs.Copying.{room-cells}
+use Rattle.copies.proofs.Copying.{room-cells}
 use Rattle.sheet.proofs.Described.{described, undescribed}
 use Rattle.closing.proofs.Calling.{close-refused, close-no-table}
 use borrow.Author.Needs.{needs}

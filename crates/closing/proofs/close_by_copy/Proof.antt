@@ -2,7 +2,7 @@
 use mathlib.Core.Path.{sym, subst}
 use Rattle.passes.specs.Passes.{Ready}
 use Rattle.sheet.proofs.Described.{described}
-use Rattle.tables.proofs.Copying.{copied-none, copied-ready}
+use Rattle.copies.proofs.Copying.{copied-none, copied-ready}
 use Rattle.closing.proofs.Calling.{close-no-table, close-emptied, close-struck}
 use borrow.Author.Needs.{needs}
 use Rattle.closing.proofs.close_by_copy.Statement.{statement}

@@ -9,7 +9,7 @@ use Rattle.rules.specs.Descriptions.{Sheet}
 use Rattle.rules.proofs.Descriptions.{read-wellFormed}
 use Rattle.passes.specs.Passes.{mostCells}
 use Rattle.tables.proofs.Freshness.{square-small}
-use Rattle.tables.proofs.Copying.{room-cells}
+use Rattle.copies.proofs.Copying.{room-cells}
 use Rattle.headers.specs.declared.HeaderFound.the-variants.{Good}
 use Rattle.sheet.specs.Found.{descriptionFound}
 use Rattle.sheet.proofs.Described.{Described, described, undescribed}

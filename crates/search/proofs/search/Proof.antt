@@ -12,7 +12,7 @@ use Rattle.rules.proofs.Search.{plain-order}
 use Rattle.answers.specs.Answers.{outcome}
 use Rattle.passes.specs.Passes.{mostCells}
 use Rattle.tables.proofs.Freshness.{square-small}
-use Rattle.tables.proofs.Copying.{room-cells}
+use Rattle.copies.proofs.Copying.{room-cells}
 use Rattle.headers.specs.declared.HeaderFound.the-variants.{Good}
 use Rattle.sheet.specs.Found.{descriptionFound}
 use Rattle.sheet.proofs.Described.{Described, described, undescribed}

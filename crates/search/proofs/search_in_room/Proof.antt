@@ -2,7 +2,7 @@
 use mathlib.Core.Path.{sym, _∙_, subst}
 use Rattle.passes.specs.Passes.{Ready}
 use Rattle.sheet.proofs.Described.{described}
-use Rattle.tables.proofs.Copying.{copied-none, copied-ready}
+use Rattle.copies.proofs.Copying.{copied-none, copied-ready}
 use Rattle.search.proofs.Searching.{search-no-table, first-whole, search-emptied, search-struck}
 use borrow.Author.Needs.{needs}
 use Rattle.search.proofs.search_in_room.Statement.{statement}

@@ -3,7 +3,7 @@ use mathlib.Core.Path.{_≡_, sym, _∙_}
 use Prim.Native.Nat.{_-_, _<_}
 use native.Mathlib.Omega.{arith}
 use lib.ListN.{length, replicate, length-set, length-replicate, getD-replicate}
-use Rattle.tables.proofs.Cells.{Laid, laid-none, laid-more, laid-all}
+use Rattle.passes.proofs.Cells.{Laid, laid-none, laid-more, laid-all}
 use Rattle.tables.proofs.fill.Statement.{statement}
 use Rattle.tables.proofs.fill.Tie as tie
 

@@ -3,7 +3,7 @@ use mathlib.Core.Path.{_≡_, sym, _∙_}
 use Prim.Native.Nat.{ℕ, _+_, _*_, _-_, _<_}
 use native.Mathlib.Omega.{arith}
 use lib.ListN.{length, getD}
-use Rattle.tables.proofs.Cells.{Laid, laid-none, laid-more, laid-all}
+use Rattle.passes.proofs.Cells.{Laid, laid-none, laid-more, laid-all}
 use Rattle.words.specs.Words.{words}
 use Rattle.words.proofs.Bytes.{words-length, words-at}
 use Rattle.words.proofs.take_words.Statement.{statement}

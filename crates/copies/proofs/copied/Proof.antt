@@ -4,10 +4,10 @@ use mathlib.Core.Logic.{⊎-elim}
 use Prim.Native.Nat.{_+_, _-_}
 use native.Mathlib.Omega.{arith}
 use lib.ListN.{length}
-use Rattle.tables.proofs.Cells.{Laid, laid-none, laid-more}
-use Rattle.tables.proofs.Copying.{Said, said-none, said-set, said-no-set, copied-all}
-use Rattle.tables.proofs.copied.Statement.{statement}
-use Rattle.tables.proofs.copied.Tie as tie
+use Rattle.passes.proofs.Cells.{Laid, laid-none, laid-more}
+use Rattle.copies.proofs.Copying.{Said, said-none, said-set, said-no-set, copied-all}
+use Rattle.copies.proofs.copied.Statement.{statement}
+use Rattle.copies.proofs.copied.Tie as tie
 
 abbrev Inv-loop : tie.InvT-loop
 Inv-loop table cells₀ sets₀ i₀ i-end cells sets i = Laid table cells i × Said table i sets

@@ -16,8 +16,8 @@ use Rattle.rules.proofs.Tests.{true-T, T-true, T-false, and-T, T-and-right}
 use Rattle.rules.proofs.Members.{each-of-out, each-of-places, member-at}
 use Rattle.rules.proofs.Calls.{table-wellFormed, wellFormed-table}
 use Rattle.passes.specs.Passes.{mostCells, Ready}
-use Rattle.tables.proofs.Cells.{Laid, laid-all}
-use Rattle.tables.specs.Copies.{Copied}
+use Rattle.passes.proofs.Cells.{Laid, laid-all}
+use Rattle.copies.specs.Copies.{Copied}
 
 -- b says whether the first i cells of t are sets
 pub record Said (t : List ℕ) (i : ℕ) (b : Bool) : Type 0 where

@@ -3,9 +3,9 @@ use mathlib.Core.Path.{refl, sym, _∙_}
 use Prim.Native.Nat.{_-_}
 use native.Mathlib.Omega.{arith}
 use lib.ListN.{length}
-use Rattle.tables.proofs.Cells.{Laid, laid-none, laid-more, laid-all}
-use Rattle.tables.proofs.copy.Statement.{statement}
-use Rattle.tables.proofs.copy.Tie as tie
+use Rattle.passes.proofs.Cells.{Laid, laid-none, laid-more, laid-all}
+use Rattle.copies.proofs.copy.Statement.{statement}
+use Rattle.copies.proofs.copy.Tie as tie
 
 abbrev Inv-loop : tie.InvT-loop
 Inv-loop from to₀ i₀ i-end to i = Laid from to i

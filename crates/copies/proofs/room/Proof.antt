@@ -1,7 +1,7 @@
 -- `room` meets its contract: each of its bytes is 0. Assumes nothing.
 use mathlib.Core.Path.{refl}
-use Rattle.tables.proofs.room.Statement.{statement}
-use Rattle.tables.proofs.room.Tie as tie
+use Rattle.copies.proofs.room.Statement.{statement}
+use Rattle.copies.proofs.room.Tie as tie
 
 returns : tie.Need-returns
 returns c = refl

@@ -1,0 +1,2 @@
+-- Larger sites, shown of the definitions.
+pub mod Larger

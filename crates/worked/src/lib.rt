@@ -1,0 +1,1 @@
+// Sites that take longer to compute, shown of the definitions. It holds no code.

@@ -1,27 +1,25 @@
 -- A closing, from what its parts strike: the largest closed table, counted; or the largest one has an empty cell. And what the call answers and leaves
 -- by that. Assumes nothing.
-use mathlib.Core.Path.{_≡_, refl, sym, ap, _∙_, subst}
-use mathlib.Core.Bool.{Bool, true, false, not}
+use mathlib.Core.Path.{_≡_, refl, sym, ap, subst}
+use mathlib.Core.Bool.{not}
 use mathlib.Core.List.{List}
 use Prim.Native.Nat.{ℕ, _+_, _*_, _-_}
 use native.Mathlib.Nat.{zero-add}
 use native.Mathlib.Omega.{arith}
-use lib.Dec.{T, eqb, T-not}
+use lib.Dec.{T, eqb}
 use Rattle.rules.specs.Relations.{A, S, _⊆_}
-use Rattle.rules.specs.Descriptions.{Sheet, good, refused, read}
+use Rattle.rules.specs.Descriptions.{Sheet}
 use Rattle.rules.specs.Tables.{Table, Inside, at, emptied, total, upTo}
 use Rattle.rules.specs.Arrangements.{way}
-use Rattle.rules.specs.Closed.{Closed, strikes}
+use Rattle.rules.specs.Closed.{Closed}
 use Rattle.rules.specs.Closing.{Rule, Idle, lies, rules1, rules2, rules4, rules5, rules6, rules7, rules, closing}
-use Rattle.rules.specs.Calls.{Outcome, refuse, succeed, close}
-use Rattle.rules.proofs.Tests.{T-true, T-false}
+use Rattle.rules.specs.Calls.{close}
 use Rattle.rules.proofs.Sets.{⊆-trans}
 use Rattle.rules.proofs.Members.{All, all-one, all-over, all-append, append-left, append-right}
 use Rattle.rules.proofs.Inside.{inside-trans}
 use Rattle.rules.proofs.Rules.{all-only, all-ways, parts-rules, rules-parts, closed-idle, idle-closed}
-use Rattle.rules.proofs.Largest.{closing-largest, largest-unique}
-use Rattle.rules.proofs.Calls.{given-refused, given-no-table, given-good}
-use Rattle.passes.specs.Passes.{Ready, Idles, Once, Clash}
+use Rattle.rules.proofs.Largest.{closing-largest}
+use Rattle.passes.specs.Passes.{Idles, Once, Clash}
 use Rattle.passes.proofs.Passes.{kept-start, once-then, once-from}
 use Rattle.sweeps.specs.declared.Swept.{Swept}
 use Rattle.sweeps.specs.declared.Swept.the-variants.{Struck, Emptied}

@@ -3,9 +3,8 @@ use mathlib.Core.Path.{_≡_, sym, _∙_, subst}
 use mathlib.Core.List.{List, _++_}
 use Prim.Native.Nat.{ℕ, _+_}
 use native.Mathlib.Omega.{arith}
-use Rattle.rules.specs.Tables.{Table}
 use Rattle.rules.specs.Closing.{Rule, Idle}
-use Rattle.rules.proofs.Members.{All, all-append, append-left, append-right}
+use Rattle.rules.proofs.Members.{all-append, append-left, append-right}
 use Rattle.passes.specs.Passes.{Filled, Ready, Kept, Pass, Quiet, Sound, Clash}
 use Rattle.passes.proofs.Passes.{kept-then, kept-as, kept-from, kept-tight, pass-then, pass-from}
 use Rattle.sweeps.proofs.Sweeping.{Sees}

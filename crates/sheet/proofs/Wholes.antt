@@ -1,5 +1,5 @@
 -- A whole description, by its header and its two sections. Assumes nothing.
-use mathlib.Core.Path.{_≡_, refl, sym, ap, _∙_, subst}
+use mathlib.Core.Path.{_≡_, refl, sym, ap, subst}
 use mathlib.Core.Bool.{Bool, true, false}
 use mathlib.Core.List.{List}
 use Prim.Native.Nat.{ℕ, _-_, _≤_}
@@ -8,14 +8,12 @@ use Rattle.rules.specs.Descriptions.{RelationLine, KindLine, Sheet, Reading, go
 use Rattle.rules.specs.Calls.{reading}
 use Rattle.rules.proofs.Tests.{clash, true-T}
 use Rattle.rules.proofs.Parts.{tail}
-use Rattle.rules.proofs.Readings.{need-passed, need-failed}
-use Rattle.rules.proofs.Headers.{InRange, Placed, numbers-in, numbers-out, places-in, places-out}
+use Rattle.rules.proofs.Headers.{Placed, places-out}
 use Rattle.lines.specs.declared.refusals.Refusal.{Refusal}
 use Rattle.headers.specs.declared.Header.{Header}
 use Rattle.headers.specs.declared.HeaderFound.the-variants.{Good, Refused}
 use Rattle.sheet.specs.declared.sections.SectionFound.{SectionFound}
 use Rattle.sheet.specs.declared.sections.SectionFound.the-variants as sections
-use Rattle.lines.specs.Found.{refusal}
 use Rattle.headers.specs.Found.{numbers, numbersFound, headerFound}
 use Rattle.sheet.specs.Found.{sectionFound, descriptionFound}
 use Rattle.sheet.proofs.Described.{described, undescribed}

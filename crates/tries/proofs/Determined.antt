@@ -1,5 +1,5 @@
 -- Any two ends of the tries that the contract of `hunt` permits are equal, and so are the cells where one is an arrangement. Assumes nothing.
-use mathlib.Core.Path.{_≡_, refl, sym, ap, _∙_}
+use mathlib.Core.Path.{_≡_, sym, ap, _∙_}
 use mathlib.Core.List.{List}
 use Prim.Native.Nat.{ℕ}
 use Rattle.rules.specs.Search.{End, found, none, Capped, ended, ranOut, cap}

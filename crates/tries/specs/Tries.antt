@@ -1,12 +1,11 @@
 -- What a try, a run of tries and the whole search ask for and come to. Assumes nothing.
 use mathlib.Core.Path.{_≡_}
 use mathlib.Core.List.{List}
-use Prim.Native.Nat.{ℕ, _-_, _*_, _/_, _≤_, _<_}
+use Prim.Native.Nat.{ℕ, _-_, _*_, _/_, _<_}
 use lib.ListN.{length}
 use Rattle.rules.specs.Descriptions.{mostBoards, Sheet, good, read}
 use Rattle.rules.specs.Closing.{closing}
 use Rattle.rules.specs.Search.{Order, End, found, none, later, ended, ranOut, cap}
-use Rattle.rules.specs.Calls.{Outcome, refuse, succeed}
 use Rattle.passes.specs.Passes.{Ready}
 use Rattle.headers.specs.declared.Header.{Header}
 use Rattle.headers.specs.declared.HeaderFound.the-variants.{Good}

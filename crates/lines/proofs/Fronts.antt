@@ -5,7 +5,7 @@ use Prim.Native.Nat.{ℕ, _+_, _-_, _≤_, _<_}
 use native.Mathlib.Omega.{arith}
 use lib.ListN.{length, getD, take, drop, length-drop}
 use lib.Seq.{length-take-le}
-use Rattle.rules.specs.Expressions.{value, expression}
+use Rattle.rules.specs.Expressions.{value}
 use Rattle.rules.specs.Descriptions.{RelationLine, Reading, good, refused, Front, meaning, relationLine}
 use Rattle.rules.proofs.Tests.{clash}
 use Rattle.rules.proofs.Lines.{OnBoards, relation-front, relation-read, after-line}

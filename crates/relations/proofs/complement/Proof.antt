@@ -1,6 +1,6 @@
 -- `complement` meets its contract: what a set has and what it lacks make the full set. Assumes nothing.
 use native.Mathlib.Omega.{arith}
-use Rattle.rules.specs.Relations.{relations, setTo, setOf, full, complement}
+use Rattle.rules.specs.Relations.{relations, setTo, setOf, complement}
 use Rattle.relations.proofs.Bits.{setTo-not}
 use Rattle.relations.proofs.complement.Statement.{statement}
 use Rattle.relations.proofs.complement.Tie as tie

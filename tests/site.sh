@@ -1,6 +1,6 @@
 #!/bin/sh
 # Runs the program on each stored input, tests/site/NAME.in, and compares what it prints with NAME.out, which the second program printed. Then inputs that come
-# in parts, that are closed, and that go on for ever.
+# in parts, that are closed, and that go on for ever, and an output that takes nothing.
 # Exit status: 0 all the same; 1 a difference; 2 the program is not there.
 set -eu
 cd "$(dirname "$0")/.."
@@ -42,5 +42,10 @@ run_program target/bin/site <&- >"$room/printed"
 expect "a closed input" "$room/input"
 yes | run_program target/bin/site >"$room/printed"
 expect "an input without an end" "$room/input"
+
+# An answer that cannot be written is not lost in silence.
+echo 'site: the answer could not be written' >"$room/unwritten"
+run_program target/bin/site <"$file" >/dev/full 2>"$room/printed"
+expect "a full output" "$room/unwritten"
 
 echo "site: $count inputs, no difference"

@@ -3,6 +3,7 @@ ghost use mathlib.Core.Path.{_≡_};
 ghost use Prim.Native.Nat.{_≤_};
 ghost use lib.ListN.{length};
 ghost use Rattle.site.specs.Reading.{AtMost};
+use libc::STDERR_FILENO;
 use libc::STDIN_FILENO;
 use libc::STDOUT_FILENO;
 use listing::Page;
@@ -62,9 +63,12 @@ fn page() -> Page
     }
 }
 
+// Prints the page. Where it could not be written as a whole, that is said on standard error.
 fn main() {
     let page = page();
     let text = page.text;
     let used = page.used;
-    io::write_all(STDOUT_FILENO, &text[..used]);
+    if !io::write_all(STDOUT_FILENO, &text[..used]) {
+        io::write_all(STDERR_FILENO, b"site: the answer could not be written\n");
+    }
 }

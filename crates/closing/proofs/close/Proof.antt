@@ -41,7 +41,7 @@ returns-2 c =
     let found = sym (c .before .before .before .h .given .1) ∙ c .before .before .before .before .before .description .ensures in
     let d = described (start .args .words .now) _ found in
     close-no-table (start .args .words .now) (start .args .table .now) (d .0) (d .1 .means)
-    (λ h. c .if1 .taken (h .cells ∙ ap (λ (n : ℕ). n * n) (sym (d .1 .boards))))
+    (λ h. omega (arith, c .if1 .taken, h .cells ∙ ap (λ (n : ℕ). n * n) (sym (d .1 .boards))))
 
 room-requires : tie.Need-room-requires
 room-requires c κs = search needs

@@ -1,5 +1,6 @@
 -- `single` meets its contract: a power of two that is a set is not cut to a byte. Assumes nothing.
-use Prim.Native.Nat.{_^_, _<_}
+use mathlib.Core.Path.{ap, _∙_}
+use Prim.Native.Nat.{ℕ, _^_, _%_, _<_}
 use native.Mathlib.Nat.{one-mul, mod-eq-of-lt}
 use native.Mathlib.Omega.{arith}
 use Rattle.rules.specs.Relations.{relations}
@@ -15,7 +16,7 @@ returns : tie.Need-returns
 unfolding relations
 returns c =
     let l : 2 ^ c .args .r < 16 = single-small (c .pre) in
-    rw (one-mul (2 ^ c .args .r)) (mod-eq-of-lt (omega arith))
+    ap (λ (n : ℕ). n % 256) (one-mul (2 ^ c .args .r)) ∙ mod-eq-of-lt (omega arith)
 
 pub single-spec : {M : Type 1} → statement M
 single-spec = tie.close (tie.spec shl-result returns)

@@ -2,23 +2,29 @@
 -- Assumes nothing.
 use mathlib.Core.Path.{_≡_, sym, ap, _∙_, subst}
 use mathlib.Core.Bool.{Bool}
-use mathlib.Core.Logic.{_⊎_, ⊎-elim, _↔_}
+use mathlib.Core.Logic.{_⊎_, ⊎-elim, _↔_, Iff·trans}
 use mathlib.Core.List.{List}
 use Prim.Native.Nat.{ℕ, _+_, _*_, _≤_, _<_}
-use lib.ListN.{length}
+use lib.ListN.{length, replicate}
 use lib.Dec.{T, not-T}
+use Rattle.rules.specs.Relations.{full}
 use Rattle.rules.specs.Descriptions.{mostBoards, Sheet, good, refused, read}
 use Rattle.rules.specs.Tables.{Table, Inside, emptied, total}
 use Rattle.rules.specs.Arrangements.{Arrangement}
 use Rattle.rules.specs.Closed.{Largest}
 use Rattle.rules.specs.Closing.{closing}
-use Rattle.rules.specs.Search.{Order, none, tries, Least, Nowhere}
+use Rattle.rules.specs.Search.{Order, tries, Least, Nowhere}
 use Rattle.rules.specs.Stages.{Stages}
 use Rattle.rules.proofs.Descriptions.{read-wellFormed}
 use Rattle.rules.proofs.Largest.{closing-largest, largest-unique}
 use Rattle.rules.proofs.Arrangements.{arrangement-kept}
 use Rattle.rules.proofs.Stages.{stages-clash, stages-table}
 use Rattle.rules.proofs.Calls.{strikes-counted, strikes-most}
+use Rattle.trees.specs.Trees.{DrawnFrom, NoTree}
+use Rattle.trees.proofs.Radial.{drawn-iff, nowhere-iff}
+use Rattle.clauses.specs.Clauses.{Description, sheet, Writes, Solves, Unsolvable}
+use Rattle.clauses.proofs.Written.{read-writes}
+use Rattle.clauses.proofs.Constraints.{solved-iff, unsolvable-iff}
 use Rattle.answers.specs.declared.Answer.{Answer}
 use Rattle.answers.specs.Answers.{numbered}
 use Rattle.answers.proofs.Outcomes.{outcome-determined}
@@ -48,7 +54,7 @@ use Rattle.talung.proofs.talung_check.Statement as c-check
 use Rattle.talung.proofs.talung_check.Met as c-check-met
 use Rattle.demands.specs.Entries.{Call, searches, Reads, Freshens, Refuses, Arranges}
 use Rattle.demands.proofs.Refusing.{refuses, reading-refused, reading-good, call-gives, gives-description, gives-table, gives-leaves, gives-good}
-use Rattle.demands.proofs.Finding.{stated, search-ends, ways-found, ways-none, ways-out, out-ways, ways-within, ways-tries, budget-more, stated-found, stated-none, check-ends, check-rejects, check-accepts, check-accepted}
+use Rattle.demands.proofs.Finding.{stated, search-ends, ways-none, ways-out, out-ways, ways-within, ways-tries, budget-more, stated-none, finds-least, finds-none, full-finds, full-none, check-ends, check-rejects, check-accepts, check-accepted}
 use Rattle.demands.proofs.Ending.{ends, ends-answers, ends-keeps, ends-contradictory, done, run, same-boards}
 
 -- ==== Demand 1
@@ -95,8 +101,7 @@ module _ {ord : List ℕ} (order : Order ord) (ws : List ℕ) (s : Sheet) (means
   where
     -- The search agrees with the published tree constraints with set operators: what it finds is an arrangement, inside the lent table.
     pub found-is-arrangement : a .number ≡ 0 → Arrangement s w × Inside w t
-    found-is-arrangement z =
-        let l = stated-found order ws s means t table (a .count) w (ways-found (search-ends ord ws s means t table b a w call) z) in (l .arrangement, l .inside)
+    found-is-arrangement z = let l = finds-least order ws s means t table b a w call z in (l .arrangement, l .inside)
 
     -- It says the budget ran out exactly when the stated search needs more tries than allowed;
     pub ran-out-exactly : (a .number ≡ 9) ↔ (b < tries (stated ord s t))
@@ -104,7 +109,7 @@ module _ {ord : List ℕ} (order : Order ord) (ws : List ℕ) (s : Sheet) (means
 
     -- otherwise it gives the first arrangement inside the lent table, in the stated order,
     pub found-is-first : a .number ≡ 0 → Least s ord t w
-    found-is-first z = stated-found order ws s means t table (a .count) w (ways-found (search-ends ord ws s means t table b a w call) z)
+    found-is-first = finds-least order ws s means t table b a w call
 
     pub first-is-found : tries (stated ord s t) ≤ b → (x : List ℕ) → Arrangement s x → Inside x t → a .number ≡ 0
     first-is-found l x r i =
@@ -113,10 +118,7 @@ module _ {ord : List ℕ} (order : Order ord) (ws : List ℕ) (s : Sheet) (means
 
     -- or "none" exactly when there is none.
     pub none-exactly : tries (stated ord s t) ≤ b → (a .number ≡ 8) ↔ Nowhere s t
-    none-exactly l = let ways = search-ends ord ws s means t table b a w call in (
-      λ e. stated-none order ws s means t table (a .count) (ways-none ways e),
-      λ n. ⊎-elim (λ z. let f = found-is-first z in absurd (n w (f .arrangement) (f .inside))) (λ e. e) (ways-within ways l),
-    )
+    none-exactly = finds-none order ws s means t table b a w call
 
     -- The answer carries the tries that the stated search makes, or the budget where that ran out.
     pub answer-carries-tries : (a .number ≡ 9 → ⊥) → a .count ≡ tries (stated ord s t)
@@ -145,6 +147,42 @@ pub found-is-accepted : {ord : List ℕ} → Order ord → (ws t : List ℕ) (b 
 found-is-accepted {ord} order ws t b a w call z c checked =
     let g = gives-good ws t a w (call-gives ws t a w (searches ord b call)) z in
     check-accepts-exactly ws w c checked .1 (g .0, g .1, found-is-arrangement order ws (g .0) (g .1) t (g .2) b a w call z .0)
+
+-- ==== Demand 2, of radial trees and of the published constraints
+
+-- For a good description, the arrangements are exactly what radial trees that fit it draw,
+pub arrangements-are-trees : (ws : List ℕ) (s : Sheet) → read ws ≡ good s → (t : List ℕ) → Arrangement s t ↔ DrawnFrom s t
+arrangements-are-trees ws s means = drawn-iff (read-wellFormed ws s means)
+
+-- and exactly the tables whose row sets satisfy the published clauses of the description that the words write.
+pub arrangements-are-solutions : (ws : List ℕ) (s : Sheet) → read ws ≡ good s
+    → (φ : Description) × Writes ws φ × (sheet φ ≡ s) × ((t : List ℕ) → Arrangement s t ↔ Solves φ t)
+arrangements-are-solutions ws s means =
+    let m = read-writes ws s means in (m .0, m .1, m .2, solved-iff (m .0) (m .2) (read-wellFormed ws s means))
+
+-- For a good description, the full table, any order of relations, and any budget that does not run out:
+module _ {ord : List ℕ} (order : Order ord) (ws : List ℕ) (s : Sheet) (means : read ws ≡ good s) (b : ℕ) (a : Answer) (w : List ℕ)
+    (call : Searching ord ws (replicate (s .boards * s .boards) full) b a w) (ended : a .number ≡ 9 → ⊥)
+  where
+    -- The search says none exactly when no radial tree fits the description, and what it finds is drawn from one.
+    pub finds-radial-trees : ((a .number ≡ 8) ↔ NoTree s) × (a .number ≡ 0 → DrawnFrom s w)
+    finds-radial-trees =
+        let f = read-wellFormed ws s means in (
+          Iff·trans (full-none order ws s means b a w call ended) (nowhere-iff f),
+          λ z. drawn-iff f w .0 (full-finds order ws s means b a w call z),
+        )
+
+    -- The search agrees with the published tree constraints with set operators: it says none exactly when those that the words write have no
+    -- solution, and the row sets of what it finds are one.
+    pub agrees-with-constraints : (φ : Description) × Writes ws φ × ((a .number ≡ 8) ↔ Unsolvable φ) × (a .number ≡ 0 → Solves φ w)
+    agrees-with-constraints =
+        let f = read-wellFormed ws s means in
+        let m = read-writes ws s means in (
+          m .0,
+          m .1,
+          Iff·trans (full-none order ws s means b a w call ended) (unsolvable-iff (m .0) (m .2) f),
+          λ z. solved-iff (m .0) (m .2) f w .0 (full-finds order ws s means b a w call z),
+        )
 
 -- ==== Demand 3
 

@@ -4,9 +4,11 @@ use mathlib.Core.Path.{_≡_, refl, sym, ap, ap₂, _∙_, subst}
 use mathlib.Core.Logic.{_⊎_, inl, inr, ⊎-elim, _↔_}
 use mathlib.Core.Bool.{Bool, true, false}
 use mathlib.Core.List.{List}
-use Prim.Native.Nat.{ℕ, _≤_, _<_}
+use Prim.Native.Nat.{ℕ, _*_, _≤_, _<_}
 use native.Mathlib.Omega.{arith}
+use lib.ListN.{replicate}
 use lib.Dec.{T, T-not}
+use Rattle.rules.specs.Relations.{full}
 use Rattle.rules.specs.Descriptions.{Sheet, Reading, good, refused, read}
 use Rattle.rules.specs.Tables.{Table}
 use Rattle.rules.specs.Arrangements.{Arrangement}
@@ -18,6 +20,7 @@ use Rattle.rules.proofs.Descriptions.{read-wellFormed}
 use Rattle.rules.proofs.Calls.{table-wellFormed, wellFormed-table, arrangement-arranged, arranged-arrangement}
 use Rattle.rules.proofs.Largest.{closing-largest}
 use Rattle.rules.proofs.Search.{search-found, search-none, cap-case, cap-more}
+use Rattle.boards.proofs.Made.{full-table}
 use Rattle.answers.specs.declared.Answer.{Answer}
 use Rattle.answers.specs.Answers.{outcome}
 use Rattle.answers.proofs.Outcomes.{says, counts, leaves}
@@ -95,6 +98,10 @@ module _ {e : End} {b : ℕ} {t : List ℕ} {a : Answer} {w : List ℕ} (ways : 
   ways-within h =
       ⊎-elim (λ f. inl (f .number)) (⊎-elim (λ f. inr (f .number)) (λ f. let l : b < tries e = f .more in let z : ⊥ = omega arith in absurd z)) ways
 
+  -- it ends within the budget unless that ran out
+  pub ways-enough : (a .number ≡ 9 → ⊥) → tries e ≤ b
+  ways-enough n = ⊎-elim (λ f. f .enough) (⊎-elim (λ f. f .enough) (λ f. absurd (n (f .number)))) ways
+
   pub ways-tries : (a .number ≡ 9 → ⊥) → a .count ≡ tries e
   ways-tries n = ⊎-elim (λ f. sym (ap tries (f .end))) (⊎-elim (λ f. sym (ap tries (f .end))) (λ f. absurd (n (f .number)))) ways
 
@@ -126,6 +133,32 @@ module _ {ord : List ℕ} (order : Order ord) (ws : List ℕ) (s : Sheet) (means
 
   pub stated-none : stated ord s t ≡ none n → Nowhere s t
   stated-none = search-none (read-wellFormed ws s means) (closing-largest s) order t table n
+
+-- what a call finds, and when it says none
+module _ {ord : List ℕ} (order : Order ord) (ws : List ℕ) (s : Sheet) (means : read ws ≡ good s) (t : List ℕ) (table : Table (s .boards) t) (b : ℕ)
+    (a : Answer) (w : List ℕ) (call : Searching ord ws t b a w)
+  where
+    pub finds-least : a .number ≡ 0 → Least s ord t w
+    finds-least z = stated-found order ws s means t table (a .count) w (ways-found (search-ends ord ws s means t table b a w call) z)
+
+    pub finds-none : tries (stated ord s t) ≤ b → (a .number ≡ 8) ↔ Nowhere s t
+    finds-none l = let ways = search-ends ord ws s means t table b a w call in (
+      λ e. stated-none order ws s means t table (a .count) (ways-none ways e),
+      λ n. ⊎-elim (λ z. let f = finds-least z in absurd (n w (f .arrangement) (f .inside))) (λ e. e) (ways-within ways l),
+    )
+
+-- the same from the full table, where the budget does not run out
+module _ {ord : List ℕ} (order : Order ord) (ws : List ℕ) (s : Sheet) (means : read ws ≡ good s) (b : ℕ) (a : Answer) (w : List ℕ)
+    (call : Searching ord ws (replicate (s .boards * s .boards) full) b a w)
+  where
+    pub full-finds : a .number ≡ 0 → Arrangement s w
+    full-finds z = finds-least order ws s means (replicate (s .boards * s .boards) full) (full-table (s .boards)) b a w call z .arrangement
+
+    pub full-none : (a .number ≡ 9 → ⊥) → (a .number ≡ 8) ↔ Nowhere s (replicate (s .boards * s .boards) full)
+    full-none enough =
+        let t = replicate (s .boards * s .boards) full in
+        let table = full-table (s .boards) in
+        finds-none order ws s means t table b a w call (ways-enough (search-ends ord ws s means t table b a w call) enough)
 
 -- a check answers by whether the table is an arrangement
 pub check-ends : (ws : List ℕ) (s : Sheet) → read ws ≡ good s → (t : List ℕ) → Table (s .boards) t → (a : Answer) → Checking ws t a

@@ -1,4 +1,3 @@
 -- The laws behind the functions of this crate.
 pub mod Bits
-pub mod Entries
 pub mod Determined

@@ -16,7 +16,8 @@ use Rattle.rules.proofs.Sets.{⊆-refl, ⊆-trans, ⊆-antisym, ⊆-zer
 pub in-range : (v p q : ℕ) → p < v → q < v → v * p + q < v * v
 in-range v p q h k = omega (arith, mul-le-mul-left v h, mul-suc v p)
 
-place : (v k : ℕ) → k < v * v → (p : ℕ) × (q : ℕ) × (p < v) × (q < v) × (k ≡ v * p + q)
+-- each place of the table is a cell (p, q)
+pub place : (v k : ℕ) → k < v * v → (p : ℕ) × (q : ℕ) × (p < v) × (q < v) × (k ≡ v * p + q)
 place zero k h = let z : ⊥ = omega arith in absurd z
 place (suc n) k h =
     let v : ℕ = suc n in

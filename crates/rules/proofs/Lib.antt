@@ -3,6 +3,7 @@ pub mod Tests
 pub mod Digits
 pub mod Sets
 pub mod Composition
+pub mod Entries
 pub mod Members
 pub mod Inside
 pub mod Strikes

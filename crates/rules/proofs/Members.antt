@@ -2,7 +2,7 @@
 use mathlib.Core.Path.{_≡_, refl, sym, subst}
 use mathlib.Core.Bool.{Bool, true, false}
 use mathlib.Core.Logic.{_⊎_, inl, inr, ⊎-elim}
-use mathlib.Core.List.{List, [], _∷_, _++_, flatMap, List·Memᴰ, List·Memᴰ·head, List·Memᴰ·tail, List·Memᴰ·not-nil, List·Memᴰ·cases-cons, List·Memᴰ·append-cases, List·Memᴰ·eq-of-singleton, Memᴰ·append-left, Memᴰ·append-right}
+use mathlib.Core.List.{List, [], _∷_, _++_, map, flatMap, List·Memᴰ, List·Memᴰ·head, List·Memᴰ·tail, List·Memᴰ·not-nil, List·Memᴰ·cases-cons, List·Memᴰ·append-cases, List·Memᴰ·eq-of-singleton, Memᴰ·append-left, Memᴰ·append-right}
 use Prim.Native.Nat.{ℕ, zero, suc, _+_, _≤_, _<_}
 use native.Mathlib.Nat.{eq-or-lt-of-le, not-suc-le-zero, le-of-suc-le-suc}
 use native.Mathlib.Omega.{arith}
@@ -100,6 +100,12 @@ at-member (y ∷ xs) x m = go (List·Memᴰ·cases-cons m) (λ n. at-member xs x
         → (k : ℕ) × (k < suc (length xs)) × (getD (y ∷ xs) k 0 ≡ x)
     go (inl e) f = (0, omega arith, sym e)
     go (inr n) f = let r = f n in let l : r .0 < length xs = r .1 in (suc (r .0), omega arith, r .2)
+
+-- what stands at a place of a list whose elements are each put through f
+pub at-map : {X Y : Type 0} (f : X → Y) (xs : List X) (i : ℕ) (d : X) (e : Y) → i < length xs → getD (map f xs) i e ≡ f (getD xs i d)
+at-map f [] i d e h = absurd (not-suc-le-zero h)
+at-map f (x ∷ xs) zero d e h = refl
+at-map f (x ∷ xs) (suc i) d e h = at-map f xs i d e (le-of-suc-le-suc h)
 
 -- a test that passes at each place passes at each element
 pub each-of-places : (f : ℕ → Bool) (xs : List ℕ) → ((k : ℕ) → k < length xs → T (f (getD xs k 0))) → T (eachOf f xs)

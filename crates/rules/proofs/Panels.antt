@@ -15,7 +15,7 @@ use Rattle.rules.proofs.Tests.{T-decide, T-differ}
 use Rattle.rules.proofs.Arrangements.{one-within, panel, fed}
 
 -- above what is below: same, above or below, and not side
-above-below : (x r : ℕ) → r < relations → x ≡ 2 ^ r → x ⊆ compose A B → (x ≡ E) ⊎ ((x ≡ A) ⊎ (x ≡ B))
+pub above-below : (x r : ℕ) → r < relations → x ≡ 2 ^ r → x ⊆ compose A B → (x ≡ E) ⊎ ((x ≡ A) ⊎ (x ≡ B))
 unfolding relations has setTo setOf singles composed compose
 above-below x zero h e s = inl e
 above-below x (suc zero) h e s = inr (inl e)

@@ -5,7 +5,7 @@ use Prim.Native.Nat.{ℕ, _+_, _*_, _/_, _%_, _<_}
 use native.Mathlib.Omega.{arith}
 use lib.ListN.{getD}
 use Rattle.rules.specs.Relations.{relations, has, setTo, setOf, singles, composed, compose, sets}
-use Rattle.relations.proofs.Entries.{values, value-at}
+use Rattle.rules.proofs.Entries.{values, value-at}
 use Rattle.relations.proofs.composition_table.Statement.{statement}
 use Rattle.relations.proofs.composition_table.Tie as tie
 

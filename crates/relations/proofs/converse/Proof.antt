@@ -2,7 +2,7 @@
 use borrow.Author.Needs.{needs}
 use native.Mathlib.Omega.{arith}
 use Rattle.rules.specs.Relations.{relations, sets, has, setTo, setOf, opposite, converse}
-use Rattle.relations.proofs.Entries.{value-at}
+use Rattle.rules.proofs.Entries.{value-at}
 use Rattle.relations.proofs.converse.Statement.{statement}
 use Rattle.relations.proofs.converse.Tie as tie
 

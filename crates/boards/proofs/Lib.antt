@@ -1,0 +1,5 @@
+-- The boards of an arrangement.
+pub mod Made
+pub mod Order
+pub mod Groups
+pub mod Feeding

@@ -1,0 +1,8 @@
+-- The laws of the published clauses.
+pub mod Values
+pub mod Unions
+pub mod Links
+pub mod Solutions
+pub mod Written
+pub mod Rendered
+pub mod Constraints

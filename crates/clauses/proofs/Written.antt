@@ -1,0 +1,128 @@
+-- The words of every good description write a description as it is published, which means what the words mean. Assumes nothing.
+use mathlib.Core.Path.{_≡_, refl, sym, ap, ap₂, _∙_, subst}
+use mathlib.Core.List.{List, [], _∷_, _++_, map, flatMap, map-id}
+use Prim.Native.Nat.{ℕ, zero, suc, _-_}
+use native.Mathlib.Omega.{arith}
+use lib.ListN.{length, getD, take, drop, take-append-drop}
+use lib.Seq.{length-take-le}
+use Rattle.rules.specs.Expressions.{Value, value, malformed, expression, written}
+use Rattle.rules.specs.Descriptions.{RelationLine, KindLine, Sheet, Reading, good, Front, need, next, meaning, relationLine, kindLine, section, numbersFit, offsetsFit, relationLines, kindLines, read}
+use Rattle.rules.proofs.Expressions.{expression-written}
+use Rattle.rules.proofs.Readings.{never, need-rest, next-out}
+use Rattle.rules.proofs.Lines.{RelationRead, relation-out, KindRead, kind-out, ways-length}
+use Rattle.clauses.specs.Clauses.{Description, line, sheet, formulaWords, labelWords, Writes}
+
+-- ---- a line
+
+-- y is written by the front of the words, and means the line
+record Fronted {X Y : Type 0} (words : Y → List ℕ) (means : Y → X) (ws : List ℕ) (f : Front X) : Type 0 where
+  written : Y
+  spelt : ws ≡ words written ++ f .rest
+  meant : means written ≡ f .line
+
+-- a good meaning is that of an expression with no word after it
+whole : (v : Value) (x : ℕ) → meaning v ≡ good x → v ≡ value x []
+whole (value y []) x e = ap (λ (z : ℕ). value z []) (cc)
+whole (value y (w ∷ ws)) x e = never 5 x e
+whole malformed x e = never 5 x e
+
+relation-written : (v : ℕ) (ws : List ℕ) (f : Front RelationLine) → relationLine v ws ≡ good f → Fronted formulaWords line ws f
+relation-written v ws f e = go ws (relation-out v ws f e)
+  where
+    go : (ws : List ℕ) → RelationRead v ws f → Fronted formulaWords line ws f
+    go [] r = let z : ⊥ = omega (arith, r .passed .fits .three) in absurd z
+    go (p ∷ []) r = let z : ⊥ = omega (arith, r .passed .fits .three) in absurd z
+    go (p ∷ q ∷ []) r = let z : ⊥ = omega (arith, r .passed .fits .three) in absurd z
+    go (p ∷ q ∷ n ∷ ws) r =
+        let x = expression-written (take n ws) (r .allowed) (whole (expression (take n ws)) (r .allowed) (r .means)) in
+        let l : length (written (x .0)) ≡ n = ap length (x .1) ∙ length-take-le n ws (omega (arith, r .passed .fits .room)) in
+        subst (Fronted formulaWords line (p ∷ q ∷ n ∷ ws)) (r .front)
+        (record {
+          written = record { x = p; relation = x .0; y = q };
+          spelt = ap₂ (λ (m : ℕ) (us : List ℕ). p ∷ q ∷ m ∷ us) (sym l)
+              (sym (take-append-drop n ws) ∙ ap (λ (us : List ℕ). us ++ drop n ws) (sym (x .1)));
+          meant = ap (λ (a : ℕ). record { p = p; q = q; allowed = a }) (x .2);
+        })
+
+kind-written : (v : ℕ) (ws : List ℕ) (f : Front KindLine) → kindLine v ws ≡ good f → Fronted labelWords (λ k. k) ws f
+kind-written v ws f e = go ws (kind-out v ws f e)
+  where
+    go : (ws : List ℕ) → KindRead v ws f → Fronted labelWords (λ k. k) ws f
+    go [] r = let z : ⊥ = omega (arith, r .passed .fits .three) in absurd z
+    go (p ∷ []) r = let z : ⊥ = omega (arith, r .passed .fits .three) in absurd z
+    go (p ∷ q ∷ []) r = let z : ⊥ = omega (arith, r .passed .fits .three) in absurd z
+    go (p ∷ q ∷ n ∷ ws) r =
+        subst (Fronted labelWords (λ k. k) (p ∷ q ∷ n ∷ ws)) (r .front)
+        (record {
+          written = record { p = p; code = q; ways = take n ws };
+          spelt = ap₂ (λ (m : ℕ) (us : List ℕ). p ∷ q ∷ m ∷ us)
+              (sym (ways-length v (p ∷ q ∷ n ∷ ws) (r .passed .fits))) (sym (take-append-drop n ws));
+          meant = refl;
+        })
+
+-- ---- a section
+
+module _ {X Y : Type 0} (words : Y → List ℕ) (means : Y → X) where
+  -- what the words of a section write, a line each
+  record Filled (ws : List ℕ) (xs : List X) : Type 0 where
+    written : List Y
+    spelt : ws ≡ flatMap words written
+    meant : map means written ≡ xs
+
+  section-written : (line : List ℕ → Reading (Front X)) → ((ws : List ℕ) (f : Front X) → line ws ≡ good f → Fronted words means ws f)
+      → (n : ℕ) (ws : List ℕ) (xs : List X) → section line n ws ≡ good xs → Filled ws xs
+  unfolding section flatMap
+  section-written line h zero [] xs e = record { written = []; spelt = refl; meant = cc }
+  section-written line h zero (w ∷ ws) xs e = never 3 xs e
+  section-written line h (suc n) ws xs e = from (next-out (line ws) _ xs e) (λ us ys d. section-written line h n us ys d)
+    where
+      from : (f : Front X) × (line ws ≡ good f) × (next (section line n (f .rest)) (λ ls. good (f .line ∷ ls)) ≡ good xs)
+          → ((us : List ℕ) (ys : List X) → section line n us ≡ good ys → Filled us ys) → Filled ws xs
+      from (f, d, g) go = on (next-out (section line n (f .rest)) _ xs g)
+        where
+          on : (ls : List X) × (section line n (f .rest) ≡ good ls) × (good (f .line ∷ ls) ≡ good xs) → Filled ws xs
+          on (ls, a, b) =
+              let first = h ws f d in
+              let others = go (f .rest) ls a in
+              record {
+                written = first .written ∷ others .written;
+                spelt = first .spelt ∙ ap (λ (us : List ℕ). words (first .written) ++ us) (others .spelt);
+                meant = ap₂ (λ (x : X) (us : List X). x ∷ us) (first .meant) (others .meant) ∙ cc;
+              }
+
+-- ---- a description
+
+-- the words of a good description write a published one, and it means what they mean
+pub read-writes : (ws : List ℕ) (s : Sheet) → read ws ≡ good s → (φ : Description) × Writes ws φ × (sheet φ ≡ s)
+unfolding read relationLines kindLines
+read-writes ws s e = lines (next-out (relationLines ws) ruled s third)
+  where
+    made : List RelationLine → List KindLine → Sheet
+    made ls ks = record { boards = getD ws 0 0; lines = ls; kinds = ks }
+
+    ruled : List RelationLine → Reading Sheet
+    ruled ls = next (kindLines ws) (λ ks. good (made ls ks))
+
+    second : need 2 (offsetsFit ws) (next (relationLines ws) ruled) ≡ good s
+    second = need-rest 1 (numbersFit ws) (need 2 (offsetsFit ws) (next (relationLines ws) ruled)) s e
+
+    third : next (relationLines ws) ruled ≡ good s
+    third = need-rest 2 (offsetsFit ws) (next (relationLines ws) ruled) s second
+
+    kinds : (ls : List RelationLine) → Filled formulaWords line (take (getD ws 4 0 - 6) (drop 6 ws)) ls
+        → (ks : List KindLine) × (kindLines ws ≡ good ks) × (good (made ls ks) ≡ good s) → (φ : Description) × Writes ws φ × (sheet φ ≡ s)
+    kinds ls a (ks, d, g) =
+        let b =
+        section-written labelWords (λ k. k) (kindLine (getD ws 0 0)) (kind-written (getD ws 0 0)) (getD ws 2 0) (drop (getD ws 4 0) ws) ks d in
+        let c : b .written ≡ ks = sym (map-id (b .written)) ∙ b .meant in (
+          record { boards = getD ws 0 0; formulas = a .written; labels = b .written },
+          record { boards = refl; formulas = a .spelt; labels = b .spelt },
+          ap₂ made (a .meant) c ∙ cc,
+        )
+
+    lines : (ls : List RelationLine) × (relationLines ws ≡ good ls) × (ruled ls ≡ good s) → (φ : Description) × Writes ws φ × (sheet φ ≡ s)
+    lines (ls, d, g) =
+        kinds ls
+        (section-written formulaWords line (relationLine (getD ws 0 0)) (relation-written (getD ws 0 0)) (getD ws 1 0)
+        (take (getD ws 4 0 - 6) (drop 6 ws)) ls d)
+        (next-out (kindLines ws) (λ ks. good (made ls ks)) s g)

@@ -1,0 +1,2 @@
+-- The published clauses.
+pub mod Clauses

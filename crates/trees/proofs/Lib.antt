@@ -1,0 +1,8 @@
+-- The laws of trees.
+pub mod Places
+pub mod Rising
+pub mod Drawn
+pub mod Paths
+pub mod Numbers
+pub mod Grown
+pub mod Radial

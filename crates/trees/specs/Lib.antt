@@ -1,0 +1,2 @@
+-- Radial trees.
+pub mod Trees

@@ -13,8 +13,8 @@ use Rattle.rules.specs.Tables.{at}
 use Rattle.rules.specs.Arrangements.{way, width, Arrangement}
 use Rattle.rules.proofs.Tests.{T-decide, T-differ}
 use Rattle.rules.proofs.Arrangements.{panel, fed}
-use Rattle.rules.proofs.Panels.{above-way}
 use Rattle.boards.proofs.Order.{Over, over-both, above-over, same-turned, same-trans}
+use Rattle.boards.proofs.Panels.{above-way}
 
 module _ {s : Sheet} (f : WellFormed s) {t : List ℕ} (a : Arrangement s t) where
   module _ (k : KindLine) (m : List·Memᴰ k (s .kinds)) (i : ℕ) (hi : i < width k)

@@ -5,13 +5,13 @@ use mathlib.Core.Logic.{_⊎_, inl, inr}
 use mathlib.Core.List.{List}
 use Prim.Native.Nat.{ℕ, zero, suc, _+_, _*_, _^_, _<_}
 use native.Mathlib.Omega.{arith}
-use Rattle.rules.specs.Relations.{relations, same, above, below, E, A, B, S, _⊆_, opposite, converse, singles, composed, compose}
+use lib.Dec.{T}
+use Rattle.rules.specs.Relations.{relations, same, above, below, side, E, A, B, S, has, setTo, setOf, _⊆_, opposite, converse, singles, composed, compose}
 use Rattle.rules.specs.Descriptions.{Sheet}
 use Rattle.rules.specs.Tables.{at}
 use Rattle.rules.specs.Arrangements.{Arrangement}
 use Rattle.rules.proofs.Composition.{converse-single, compose-single, compose-E-left, compose-E-right}
 use Rattle.rules.proofs.Arrangements.{One, one-within}
-use Rattle.rules.proofs.Panels.{above-below}
 
 -- p is at or above q
 abbrev pub Over : Sheet → List ℕ → ℕ → ℕ → Type 0
@@ -27,6 +27,17 @@ one-of-four x (suc (suc (suc zero)), h, e) = inr (inr (inr e))
 one-of-four x (suc (suc (suc (suc r))), h, e) = let z : ⊥ = omega arith in absurd z
 
 -- ---- what the table of sixteen says of same, above and below
+
+-- above what is below: same, above or below, and not side
+above-below : (x : ℕ) → One x → x ⊆ compose A B → (x ≡ E) ⊎ ((x ≡ A) ⊎ (x ≡ B))
+unfolding relations has setTo setOf singles composed compose
+above-below x o s = by (one-of-four x o)
+  where
+    by : (x ≡ E) ⊎ ((x ≡ A) ⊎ ((x ≡ B) ⊎ (x ≡ S))) → (x ≡ E) ⊎ ((x ≡ A) ⊎ (x ≡ B))
+    by (inl e) = inl e
+    by (inr (inl e)) = inr (inl e)
+    by (inr (inr (inl e))) = inr (inr e)
+    by (inr (inr (inr e))) = absurd (s .member side (omega arith) (subst (λ (y : ℕ). T (has y side)) (sym e) tt))
 
 same-small : same < relations
 unfolding relations
@@ -94,7 +105,7 @@ module _ {s : Sheet} {t : List ℕ} (a : Arrangement s t) where
     same-trans = follows same same same same-small same-small refl p q r hp hq hr
 
     -- what is at or above q is above what q is above
-    over-above : Over s t p q → at s t q r ≡ A → at s t p r ≡ A
+    pub over-above : Over s t p q → at s t q r ≡ A → at s t p r ≡ A
     unfolding relations singles composed
     over-above (inl d) = follows same above above same-small above-small refl p q r hp hq hr d
     over-above (inr d) = follows above above above above-small above-small refl p q r hp hq hr d
@@ -133,8 +144,8 @@ module _ {s : Sheet} {t : List ℕ} (a : Arrangement s t) where
   over-chain p q r hp hq hr (inl d) e = inr (over-trans q r p hq hr hp e (inl (same-turned p r hp hr d)))
   over-chain p q r hp hq hr (inr d) (inl e) = inl (over-trans p r q hp hr hq (inr d) (inl (same-turned q r hq hr e)))
   over-chain p q r hp hq hr (inr d) (inr e) =
-      let o = a .single p q hp hq in
-      by (above-below (at s t p q) (o .0) (o .1) (o .2)
+      by
+      (above-below (at s t p q) (a .single p q hp hq)
       (subst (λ (x : ℕ). at s t p q ⊆ x) (ap₂ compose d (above-turned q r hq hr e)) (a .rule3 p r q hp hr hq)))
     where
       by : (at s t p q ≡ E) ⊎ ((at s t p q ≡ A) ⊎ (at s t p q ≡ B)) → Over s t p q ⊎ Over s t q p

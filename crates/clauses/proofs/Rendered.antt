@@ -20,9 +20,9 @@ use Rattle.rules.proofs.Members.{some-of-in, some-of-out, member-at, at-member,
 use Rattle.rules.proofs.Sets.{within-⊆, ⊆-within, ⊆-eq, ⊆-trans, ⊆-single}
 use Rattle.rules.proofs.Composition.{converse-mono, compose-mono}
 use Rattle.rules.proofs.Arrangements.{One, one-within, panel, fed}
-use Rattle.rules.proofs.Panels.{above-way}
 use Rattle.boards.proofs.Order.{one-of-four, turns, same-turned, above-turned, below-turned, same-rows}
 use Rattle.boards.proofs.Groups.{chief, chief-board, chief-same, same-chief, chief-equal}
+use Rattle.boards.proofs.Panels.{above-way}
 use Rattle.boards.proofs.Feeding.{one-feeder}
 use Rattle.clauses.specs.Clauses.{Formula, Description, line, sheet, Boards, Term, Nodes, Part, Disjoint, DisjointUnion, values, Choice, Clause18, Clause19, Clause20, Clause21, Partitioned, Chosen, Clause32, Published, Chooses, Rows}
 use Rattle.clauses.proofs.Values.{values-denoted}

@@ -10,7 +10,6 @@ pub mod Strikes
 pub mod Rules
 pub mod Largest
 pub mod Arrangements
-pub mod Panels
 pub mod Stages
 pub mod Parts
 pub mod Expressions

@@ -3,78 +3,27 @@
 use mathlib.Core.Path.{_≡_, refl, sym, ap, ap₂, _∙_, subst}
 use mathlib.Core.Bool.{Bool, not, decide, decide-iff}
 use mathlib.Core.Logic.{_⊎_, inl, inr, ⊎-elim}
-use mathlib.Core.List.{List, [], _∷_, _++_, map, flatMap, List-discrete, List·Memᴰ, List·Memᴰ·head, List·Memᴰ·tail, List·Memᴰ·cases-cons, Memᴰ·cast, Memᴰ·map, Memᴰ·of-map}
+use mathlib.Core.List.{List, [], _∷_, map, List-discrete, List·Memᴰ, Memᴰ·cast}
 use Prim.Native.Nat.{ℕ, zero, suc, _+_, _^_, _<_}
 use native.Mathlib.Omega.{arith}
 use native.Mathlib.Decide.{ℕ-discrete}
 use lib.Dec.{T, ltb, lt→ltb, T-not}
-use lib.ListN.{length, getD, take, drop, take-append-drop, length-append}
-use lib.Seq.{take-append-seam}
+use lib.ListN.{length, getD}
 use Rattle.rules.specs.Relations.{someOf, relations, E, A, B, S, has}
 use Rattle.rules.specs.Descriptions.{RelationLine, KindLine, Sheet, WellFormed}
 use Rattle.rules.specs.Tables.{at, range, upTo}
 use Rattle.rules.specs.Arrangements.{way, width, Arrangement}
 use Rattle.rules.proofs.Tests.{T-true, true-T, T-decide, and-T}
-use Rattle.rules.proofs.Members.{all-over, over-all, some-of-in, some-of-out, upTo-in, upTo-out}
+use Rattle.rules.proofs.Members.{some-of-in, some-of-out, upTo-in, upTo-out}
 use Rattle.rules.proofs.Digits.{has-single}
 use Rattle.rules.proofs.Arrangements.{panel, fed}
 use Rattle.boards.proofs.Order.{Over, same-turned, above-turned, below-turned}
 use Rattle.boards.proofs.Groups.{chief}
-use Rattle.trees.specs.Trees.{Place, child, AtOrAbove, Above, Beside, Stands, Placement, Draws, Holds, rising, Panel, Fits, unsaid}
-use Rattle.trees.proofs.Places.{at-refl, at-trans, at-cases, above-at, above-root, child-not-root}
+use Rattle.trees.specs.Trees.{Place, child, Above, Beside, Stands, Placement, Draws, Holds, rising, Panel, Fits, unsaid}
+use Rattle.trees.proofs.Places.{at-cases, above-at, child-not-root}
+use Rattle.trees.proofs.Spread.{places-out, Covered, spread}
 use Rattle.trees.proofs.Paths.{PathOf, under, Numbered, place, place-path, path-board, path-not-root, path-above, path-parent, parent-same, same-path, path-same, over-path, path-over}
 use Rattle.trees.proofs.Numbers.{boards-forest, over-same, same-over, above-strictly, chiefs-numbered, Fed, number, number-fed, way-parent, parent-feeds, numbers-numbered}
-
--- ---- the places at or above some places
-
-prefixes : Place → List Place
-prefixes y = map (λ n. take n y) (upTo (suc (length y)))
-
-prefix-in : {x y : Place} → AtOrAbove x y → List·Memᴰ x (prefixes y)
-unfolding prefixes
-prefix-in {x} {y} h =
-    let l : length x < suc (length y) = omega (arith, ap length (h .path), length-append x (h .rest)) in
-    Memᴰ·cast (sym (ap (take (length x)) (h .path) ∙ take-append-seam x (h .rest))) (Memᴰ·map (λ n. take n y) (upTo-in l))
-
-prefix-out : {x : Place} (y : Place) → List·Memᴰ x (prefixes y) → AtOrAbove x y
-unfolding prefixes
-prefix-out {x} y m = from (Memᴰ·of-map (λ n. take n y) (upTo (suc (length y))) m)
-  where
-    from : (n : ℕ) × List·Memᴰ n (upTo (suc (length y))) × (take n y ≡ x) → AtOrAbove x y
-    from (n, l, e) = record { rest = drop n y; path = sym (take-append-drop n y) ∙ ap (λ (w : Place). w ++ drop n y) e }
-
-module _ (v : ℕ) (spot : ℕ → Place) where
-  -- the root, and all that is at or above the spot of a board
-  places-over : List Place
-  places-over = [] ∷ flatMap (λ b. prefixes (spot b)) (upTo v)
-
-  places-in : {x : Place} {b : ℕ} → b < v → AtOrAbove x (spot b) → List·Memᴰ x places-over
-  unfolding places-over
-  places-in {x} {b} h g =
-      List·Memᴰ·tail
-      (over-all (λ y. List·Memᴰ y (flatMap (λ c. prefixes (spot c)) (upTo v))) (λ c. prefixes (spot c)) (upTo v) (λ y m. m)
-      b (upTo-in h) x (prefix-in g))
-
-  -- some board's spot is at or below x
-  abbrev Covered : Place → Type 0
-  Covered x = (b : ℕ) × (b < v) × AtOrAbove x (spot b)
-
-  places-out : {x : Place} → List·Memᴰ x places-over → (x ≡ []) ⊎ Covered x
-  unfolding places-over
-  places-out {x} m =
-      ⊎-elim inl
-      (λ n. inr (all-over Covered (λ b. prefixes (spot b)) (upTo v) (λ b l y k. (b, upTo-out v b l, prefix-out (spot b) k)) x n))
-      (List·Memᴰ·cases-cons m)
-
-  places-upward : (x y : Place) → AtOrAbove x y → List·Memᴰ y places-over → List·Memᴰ x places-over
-  unfolding places-over
-  places-upward x y h m = ⊎-elim root covered (places-out m)
-    where
-      root : y ≡ [] → List·Memᴰ x places-over
-      root e = List·Memᴰ·head (above-root (subst (λ (z : Place). AtOrAbove x z) e h))
-
-      covered : Covered y → List·Memᴰ x places-over
-      covered (b, l, g) = places-in l (at-trans h g)
 
 -- ---- the tree
 
@@ -111,11 +60,7 @@ module _ {s : Sheet} {t : List ℕ} (a : Arrangement s t) (number : ℕ → ℕ)
 
   -- the tree of an arrangement, its boards numbered so
   pub grown : Placement (s .boards)
-  grown = record {
-    tree = record { places = places-over (s .boards) spot; upward = places-upward (s .boards) spot; code = λ x. code-at s spot x };
-    place = spot;
-    placed = λ p h. places-in (s .boards) spot h (at-refl (spot p));
-  }
+  grown = spread (s .boards) spot (λ x. code-at s spot x)
 
   spot-path : {b : ℕ} → b < s .boards → PathOf (s .boards) (Over s t) number b (spot b)
   unfolding spot

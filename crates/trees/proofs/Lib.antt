@@ -1,8 +1,10 @@
 -- The laws of trees.
 pub mod Places
 pub mod Rising
+pub mod Spread
 pub mod Drawn
 pub mod Paths
 pub mod Numbers
 pub mod Grown
 pub mod Radial
+pub mod Shown

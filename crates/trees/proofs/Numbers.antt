@@ -14,9 +14,9 @@ use Rattle.rules.specs.Arrangements.{way, width, Arrangement}
 use Rattle.rules.proofs.Tests.{T-decide, some-in, some-out}
 use Rattle.rules.proofs.Members.{some-of-in, some-of-out}
 use Rattle.rules.proofs.Arrangements.{panel, fed}
-use Rattle.rules.proofs.Panels.{above-way}
 use Rattle.boards.proofs.Order.{Over, over-decide, over-refl, over-trans, over-chain, over-both, above-over, same-turned, same-trans}
 use Rattle.boards.proofs.Groups.{chief, same-chief, chief-equal}
+use Rattle.boards.proofs.Panels.{above-way}
 use Rattle.boards.proofs.Feeding.{one-feeder, fed-directly}
 use Rattle.trees.proofs.Paths.{Forest, Same, Strictly, Top, Parent, Numbered, parents-same, parent-same}
 

@@ -2,6 +2,7 @@
 pub mod Values
 pub mod Unions
 pub mod Links
+pub mod Splits
 pub mod Solutions
 pub mod Written
 pub mod Rendered

@@ -1,21 +1,21 @@
 -- The arrangements of a description are exactly the tables of the solutions of its published constraints. Boards that are the same share the node of
 -- the last of them, whose sets are those of its row. Assumes nothing.
 use mathlib.Core.Path.{_≡_, refl, sym, ap, ap₂, _∙_, subst}
-use mathlib.Core.Bool.{Bool, true, false, not, _&&_, _||_}
+use mathlib.Core.Bool.{Bool, true, false, not, _||_}
 use mathlib.Core.Logic.{_⊎_, inl, inr, ⊎-elim, _↔_}
 use mathlib.Core.List.{List, [], _∷_, map, List·Memᴰ, List·Memᴰ·head, List·Memᴰ·tail, List·Memᴰ·not-nil, List·Memᴰ·cases-cons, Memᴰ·map}
 use Prim.Native.Nat.{ℕ, suc, _^_, _<_}
 use native.Mathlib.Nat.{suc-inj}
 use native.Mathlib.Omega.{arith}
-use lib.Dec.{T, eqb, ltb, eqb→eq, eqb-refl, T-not}
+use lib.Dec.{T, eqb, ltb, eqb→eq, eqb-refl}
 use lib.ListN.{length, getD, length-map}
 use lib.Seq.{ext-getD}
-use Rattle.rules.specs.Relations.{someOf, someBelow, eachBelow, countBelow, relations, same, above, below, side, E, A, B, S, has, setTo, setOf, within, _⊆_, opposite, converse, singles, composed, compose}
+use Rattle.rules.specs.Relations.{someOf, eachBelow, countBelow, relations, same, above, below, side, E, A, B, S, has, setTo, setOf, within, _⊆_, opposite, converse, singles, composed, compose}
 use Rattle.rules.specs.Expressions.{denoted}
 use Rattle.rules.specs.Descriptions.{KindLine, WellFormed}
 use Rattle.rules.specs.Tables.{cell}
 use Rattle.rules.specs.Arrangements.{way, width, Arrangement}
-use Rattle.rules.proofs.Tests.{true-T, T-decide, T-differ, and-T, T-and-left, T-and-right, T-or, each-at, some-out}
+use Rattle.rules.proofs.Tests.{true-T, T-decide, T-differ, each-at}
 use Rattle.rules.proofs.Members.{some-of-in, some-of-out, member-at, at-member, at-map}
 use Rattle.rules.proofs.Sets.{within-⊆, ⊆-within, ⊆-eq, ⊆-trans, ⊆-single}
 use Rattle.rules.proofs.Composition.{converse-mono, compose-mono}
@@ -24,10 +24,10 @@ use Rattle.boards.proofs.Order.{one-of-four, turns, same-turned, above-turned, 
 use Rattle.boards.proofs.Groups.{chief, chief-board, chief-same, same-chief, chief-equal}
 use Rattle.boards.proofs.Panels.{above-way}
 use Rattle.boards.proofs.Feeding.{one-feeder}
-use Rattle.clauses.specs.Clauses.{Formula, Description, line, sheet, Boards, Term, Nodes, Part, Disjoint, DisjointUnion, values, Choice, Clause18, Clause19, Clause20, Clause21, Partitioned, Chosen, Clause32, Published, Chooses, Rows}
+use Rattle.clauses.specs.Clauses.{Formula, Description, line, sheet, Term, Nodes, Part, Disjoint, DisjointUnion, values, Choice, Clause18, Clause19, Clause20, Clause21, Partitioned, Chosen, Clause32, Published, Chooses, Rows}
 use Rattle.clauses.proofs.Values.{values-denoted}
 use Rattle.clauses.proofs.Unions.{union-in}
-use Rattle.clauses.proofs.Links.{leads, leading}
+use Rattle.clauses.proofs.Splits.{splits, row, row-split}
 use Rattle.clauses.proofs.Solutions.{published-arrangement}
 
 -- ---- single relations
@@ -74,63 +74,6 @@ module _ {X : Type 0} (f : X → Bool) (d : X) where
       by true e c g = (List·Memᴰ·head refl, true-T e)
       by false e (inl c) g = absurd (subst T e (subst (λ (y : X). T (f y)) c t))
       by false e (inr n) g = let r = g n in (List·Memᴰ·tail (r .0), r .1)
-
--- ---- disjoint unions
-
--- the single relation x that passes g is in one of these sets, and in no two of them; and none of them has one that does not pass
-module _ (g : ℕ → Bool) (cs : List ℕ) where
-  abbrev covers : ℕ → Bool
-  covers x = leads (g x) (someBelow (length cs) (λ i. within x (getD cs i 0)))
-
-  abbrev passes : ℕ → Bool
-  passes x = eachBelow (length cs) (λ i. leads (within x (getD cs i 0)) (g x))
-
-  abbrev divides : ℕ → Bool
-  divides x = eachBelow (length cs) (λ i. eachBelow (length cs) (λ j. eqb i j || not (within x (getD cs i 0) && within x (getD cs j 0))))
-
-  abbrev splits : ℕ → Bool
-  splits x = covers x && passes x && divides x
-
--- the boards to which board n's relation is in the set c
-abbrev row : ℕ → List ℕ → ℕ → ℕ → Boards
-row v t c n z = within (cell v t n z) c
-
--- the row of a board is split as the relations are
-module _ (v : ℕ) (t : List ℕ) (g : ℕ → Bool) (cs : List ℕ) (n : ℕ) (o : (z : ℕ) → z < v → One (cell v t n z))
-    (s : T (eachBelow relations (λ r. splits g cs (2 ^ r))))
-  where
-    row-split : DisjointUnion v (λ z. g (cell v t n z)) (map (λ c. row v t c n) cs)
-    row-split = union-in (λ c. row v t c n) cs covered parts apart
-      where
-        tested : (z : ℕ) → z < v → T (splits g cs (cell v t n z))
-        tested z h =
-            let x = o z h in
-            subst (λ (x : ℕ). T (splits g cs x)) (sym (x .2)) (each-at relations (λ r. splits g cs (2 ^ r)) s (x .0) (x .1))
-
-        covered : (z : ℕ) → z < v → T (g (cell v t n z)) → (i : ℕ) × (i < length cs) × T (row v t (getD cs i 0) n z)
-        covered z h u =
-            let x = cell v t n z in
-            some-out (length cs) (λ i. within x (getD cs i 0))
-            (leading (g x) (someBelow (length cs) (λ i. within x (getD cs i 0)))
-            (T-and-left (covers g cs x) (passes g cs x) (T-and-left (covers g cs x && passes g cs x) (divides g cs x) (tested z h))) u)
-
-        parts : (i : ℕ) → i < length cs → Part v (row v t (getD cs i 0) n) (λ z. g (cell v t n z))
-        parts i l z h u =
-            let x = cell v t n z in
-            leading (within x (getD cs i 0)) (g x)
-            (each-at (length cs) (λ i. leads (within x (getD cs i 0)) (g x))
-            (T-and-right (covers g cs x) (passes g cs x) (T-and-left (covers g cs x && passes g cs x) (divides g cs x) (tested z h))) i l)
-            u
-
-        apart : (i j : ℕ) → i < length cs → j < length cs → (i ≡ j → ⊥) → Disjoint v (row v t (getD cs i 0) n) (row v t (getD cs j 0) n)
-        apart i j l m d z h p q =
-            let x = cell v t n z in
-            ⊎-elim (λ e. d (eqb→eq i j e))
-            (λ e. T-not (within x (getD cs i 0) && within x (getD cs j 0)) e (and-T (within x (getD cs i 0)) (within x (getD cs j 0)) p q))
-            (T-or (eqb i j) (not (within x (getD cs i 0) && within x (getD cs j 0)))
-            (each-at (length cs) (λ j. eqb i j || not (within x (getD cs i 0) && within x (getD cs j 0)))
-            (each-at (length cs) (λ i. eachBelow (length cs) (λ j. eqb i j || not (within x (getD cs i 0) && within x (getD cs j 0))))
-            (T-and-right (covers g cs x && passes g cs x) (divides g cs x) (tested z h)) i l) j m))
 
 -- ---- the nodes of an arrangement
 

@@ -99,7 +99,7 @@ fresh-cells-refused v t a w call l m f = refuses t a w (call ∙ sym (fresh-no-c
 module _ {ord : List ℕ} (order : Order ord) (ws : List ℕ) (s : Sheet) (means : read ws ≡ good s) (t : List ℕ) (table : Table (s .boards) t) (b : ℕ)
     (a : Answer) (w : List ℕ) (call : Searching ord ws t b a w)
   where
-    -- The search agrees with the published tree constraints with set operators: what it finds is an arrangement, inside the lent table.
+    -- The search agrees with the tree constraints as 01 renders them: what it finds is an arrangement, inside the lent table.
     pub found-is-arrangement : a .number ≡ 0 → Arrangement s w × Inside w t
     found-is-arrangement z = let l = finds-least order ws s means t table b a w call z in (l .arrangement, l .inside)
 

@@ -49,7 +49,7 @@ panelOfTwo = record { boards = 4; lines = []; kinds = twoWays ∷ [] }
 abbrev pub stood : Place → ℕ → Place
 stood z b = getD ((0 ∷ []) ∷ (0 ∷ 0 ∷ []) ∷ (0 ∷ 1 ∷ []) ∷ z ∷ []) b []
 
--- no tree with 3 at a third child of 0 fits
+-- the tree with 3 at a third child of 0 does not fit
 pub third-child-unfit : Fits panelOfTwo (spread 4 (stood (0 ∷ 2 ∷ [])) (λ x. 5)) → ⊥
 third-child-unfit f =
     from

@@ -1,21 +1,18 @@
 -- Tables by their cells: one is made from what each cell is to be, and two with the same cells are the same.
 -- Assumes nothing.
 use mathlib.Core.Path.{_≡_, sym, ap, ap₂, _∙_, subst}
-use mathlib.Core.Bool.{true, not}
-use mathlib.Core.Logic.{⊎-elim}
+use mathlib.Core.Bool.{true}
 use mathlib.Core.List.{List}
 use Prim.Native.Nat.{ℕ, _+_, _*_, _/_, _%_, _<_}
 use native.Mathlib.Nat.{mul-comm}
-use native.Mathlib.Omega.{arith}
 use lib.Pow.{pow-pos}
 use lib.Arith.{digits-div, digits-mod}
-use lib.Dec.{T, ltb, ltb→lt, nltb→le}
-use lib.ListN.{length, getD, replicate, length-replicate, getD-replicate, List·getD-eq-default}
+use lib.ListN.{length, getD, replicate, length-replicate, getD-replicate}
 use lib.Seq.{ext-getD}
 use Rattle.rules.specs.Relations.{relations, sets, full, _⊆_}
 use Rattle.rules.specs.Tables.{cell, Table, Inside}
-use Rattle.rules.proofs.Tests.{T-decide}
 use Rattle.rules.proofs.Sets.{setOf-small, ⊆-full, zero-⊆}
+use Rattle.rules.proofs.Members.{everywhere}
 use Rattle.rules.proofs.Entries.{values, value-at, values-length}
 use Rattle.rules.proofs.Inside.{in-range, place, each-place}
 
@@ -40,11 +37,8 @@ made-cells v f = values-length (λ k. f (k / v) (k % v)) 0 (v * v)
 
 -- as many cells, each of them a set, are a table
 cells-table : {v : ℕ} {t : List ℕ} → length t ≡ v * v → ((k : ℕ) → k < v * v → getD t k 0 < sets) → Table v t
-cells-table {v} {t} e small = record { cells = e; small = λ k. ⊎-elim (λ h. small k (ltb→lt k (v * v) h)) (after k) (T-decide (ltb k (v * v))) }
-  where
-    after : (k : ℕ) → T (not (ltb k (v * v))) → getD t k 0 < sets
-    after k h =
-        subst (λ (n : ℕ). n < sets) (sym (List·getD-eq-default t 0 {n = k} (omega (arith, nltb→le k (v * v) h, e)))) (pow-pos relations)
+cells-table {t = t} e small =
+    record { cells = e; small = everywhere (λ k x. x < sets) t (λ k h. small k (subst (λ (n : ℕ). k < n) e h)) (λ k. pow-pos relations) }
 
 pub made-table : (v : ℕ) (f : ℕ → ℕ → ℕ) → ((p q : ℕ) → p < v → q < v → f p q < sets) → Table v (made v f)
 made-table v f small = cells-table (made-cells v f) (λ k h. from k (place v k h))
@@ -71,12 +65,11 @@ full-table v =
 -- every table is inside the full one
 pub inside-full : {v : ℕ} {t : List ℕ} → Table v t → Inside t (replicate (v * v) full)
 inside-full {v} {t} h =
-    record { cells = h .cells ∙ sym (length-replicate (v * v) full); each = λ k. ⊎-elim (at k) (after k) (T-decide (ltb k (v * v))) }
+    record {
+      cells = h .cells ∙ sym (length-replicate (v * v) full);
+      each = everywhere (λ k x. x ⊆ getD (replicate (v * v) full) k 0) t within (λ k. zero-⊆ (getD (replicate (v * v) full) k 0));
+    }
   where
-    at : (k : ℕ) → T (ltb k (v * v)) → getD t k 0 ⊆ getD (replicate (v * v) full) k 0
-    at k l = subst (λ (n : ℕ). getD t k 0 ⊆ n) (sym (getD-replicate (v * v) k full 0 (ltb→lt k (v * v) l))) (⊆-full (getD t k 0))
-
-    after : (k : ℕ) → T (not (ltb k (v * v))) → getD t k 0 ⊆ getD (replicate (v * v) full) k 0
-    after k l =
-        subst (λ (n : ℕ). n ⊆ getD (replicate (v * v) full) k 0)
-        (sym (List·getD-eq-default t 0 {n = k} (omega (arith, nltb→le k (v * v) l, h .cells)))) (zero-⊆ (getD (replicate (v * v) full) k 0))
+    within : (k : ℕ) → k < length t → getD t k 0 ⊆ getD (replicate (v * v) full) k 0
+    within k l =
+        subst (λ (n : ℕ). getD t k 0 ⊆ n) (sym (getD-replicate (v * v) k full 0 (subst (λ (n : ℕ). k < n) (h .cells) l))) (⊆-full (getD t k 0))

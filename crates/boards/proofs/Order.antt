@@ -11,13 +11,14 @@ use Rattle.rules.specs.Descriptions.{Sheet}
 use Rattle.rules.specs.Tables.{at}
 use Rattle.rules.specs.Arrangements.{Arrangement}
 use Rattle.rules.proofs.Composition.{converse-single, compose-single, compose-E-left, compose-E-right}
+use Rattle.rules.proofs.Rules.{relations-pos, same-small}
 use Rattle.rules.proofs.Arrangements.{One, one-within}
 
 -- p is at or above q
 abbrev pub Over : Sheet → List ℕ → ℕ → ℕ → Type 0
 Over s t p q = (at s t p q ≡ E) ⊎ (at s t p q ≡ A)
 
--- the one relation of a cell, by its number
+-- a single relation is E, A, B or S
 pub one-of-four : (x : ℕ) → One x → (x ≡ E) ⊎ ((x ≡ A) ⊎ ((x ≡ B) ⊎ (x ≡ S)))
 unfolding relations
 one-of-four x (zero, h, e) = inl e
@@ -38,14 +39,6 @@ above-below x o s = by (one-of-four x o)
     by (inr (inl e)) = inr (inl e)
     by (inr (inr (inl e))) = inr (inr e)
     by (inr (inr (inr e))) = absurd (s .member side (omega arith) (subst (λ (y : ℕ). T (has y side)) (sym e) tt))
-
-same-small : same < relations
-unfolding relations
-same-small = omega arith
-
-above-small : above < relations
-unfolding relations
-above-small = omega arith
 
 below-small : below < relations
 unfolding relations
@@ -70,13 +63,13 @@ module _ {s : Sheet} {t : List ℕ} (a : Arrangement s t) where
   module _ (p q : ℕ) (hp : p < s .boards) (hq : q < s .boards) where
     pub above-turned : at s t p q ≡ A → at s t q p ≡ B
     unfolding opposite
-    above-turned = turns above above-small p q hp hq
+    above-turned = turns above relations-pos p q hp hq
 
     pub below-turned : at s t p q ≡ B → at s t q p ≡ A
     unfolding opposite
     below-turned = turns below below-small p q hp hq
 
-    -- at or above, or below, or beside
+    -- a board is at or above another, or it is not
     pub over-decide : Over s t p q ⊎ (Over s t p q → ⊥)
     over-decide = by (one-of-four (at s t p q) (a .single p q hp hq))
       where
@@ -107,14 +100,14 @@ module _ {s : Sheet} {t : List ℕ} (a : Arrangement s t) where
     -- what is at or above q is above what q is above
     pub over-above : Over s t p q → at s t q r ≡ A → at s t p r ≡ A
     unfolding relations singles composed
-    over-above (inl d) = follows same above above same-small above-small refl p q r hp hq hr d
-    over-above (inr d) = follows above above above above-small above-small refl p q r hp hq hr d
+    over-above (inl d) = follows same above above same-small relations-pos refl p q r hp hq hr d
+    over-above (inr d) = follows above above above relations-pos relations-pos refl p q r hp hq hr d
 
     -- what is above q is above what q is at or above
     pub above-over : at s t p q ≡ A → Over s t q r → at s t p r ≡ A
     unfolding relations singles composed
-    above-over d (inl e) = follows above same above above-small same-small refl p q r hp hq hr d e
-    above-over d (inr e) = follows above above above above-small above-small refl p q r hp hq hr d e
+    above-over d (inl e) = follows above same above relations-pos same-small refl p q r hp hq hr d e
+    above-over d (inr e) = follows above above above relations-pos relations-pos refl p q r hp hq hr d e
 
     pub over-trans : Over s t p q → Over s t q r → Over s t p r
     over-trans (inl d) (inl e) = inl (same-trans d e)

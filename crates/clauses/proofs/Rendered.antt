@@ -1,9 +1,9 @@
 -- The arrangements of a description are exactly the tables of the solutions of its published constraints. Boards that are the same share the node of
 -- the last of them, whose sets are those of its row. Assumes nothing.
 use mathlib.Core.Path.{_≡_, refl, sym, ap, ap₂, _∙_, subst}
-use mathlib.Core.Bool.{Bool, true, false, not, _||_}
+use mathlib.Core.Bool.{Bool, true, not, _||_}
 use mathlib.Core.Logic.{_⊎_, inl, inr, ⊎-elim, _↔_}
-use mathlib.Core.List.{List, [], _∷_, map, List·Memᴰ, List·Memᴰ·head, List·Memᴰ·tail, List·Memᴰ·not-nil, List·Memᴰ·cases-cons, Memᴰ·map}
+use mathlib.Core.List.{List, [], _∷_, map, List·Memᴰ, Memᴰ·map}
 use Prim.Native.Nat.{ℕ, suc, _^_, _<_}
 use native.Mathlib.Nat.{suc-inj}
 use native.Mathlib.Omega.{arith}
@@ -15,8 +15,8 @@ use Rattle.rules.specs.Expressions.{denoted}
 use Rattle.rules.specs.Descriptions.{KindLine, WellFormed}
 use Rattle.rules.specs.Tables.{cell}
 use Rattle.rules.specs.Arrangements.{way, width, Arrangement}
-use Rattle.rules.proofs.Tests.{true-T, T-decide, T-differ, each-at}
-use Rattle.rules.proofs.Members.{some-of-in, some-of-out, member-at, at-member, at-map}
+use Rattle.rules.proofs.Tests.{T-decide, T-differ, each-at}
+use Rattle.rules.proofs.Members.{some-of-in, some-of-out, first, first-in, member-at, at-member, at-map}
 use Rattle.rules.proofs.Sets.{within-⊆, ⊆-within, ⊆-eq, ⊆-trans, ⊆-single}
 use Rattle.rules.proofs.Composition.{converse-mono, compose-mono}
 use Rattle.rules.proofs.Arrangements.{One, one-within, panel, fed}
@@ -56,24 +56,6 @@ each-single P e a b s {x} o = by (one-of-four x o)
     by (inr (inl d)) = subst P (sym d) a
     by (inr (inr (inl d))) = subst P (sym d) b
     by (inr (inr (inr d))) = subst P (sym d) s
-
--- ---- the first of a list at which a test passes
-
-module _ {X : Type 0} (f : X → Bool) (d : X) where
-  first : List X → X
-  first [] = d
-  first (x ∷ xs) = elim (f x) [ true ↦ x | false ↦ first xs ]
-
-  first-in : (xs : List X) (x : X) → List·Memᴰ x xs → T (f x) → List·Memᴰ (first xs) xs × T (f (first xs))
-  unfolding first
-  first-in [] x m t = absurd (List·Memᴰ·not-nil m)
-  first-in (a ∷ xs) x m t = by (f a) refl (List·Memᴰ·cases-cons m) (λ n. first-in xs x n t)
-    where
-      by : (b : Bool) → f a ≡ b → (x ≡ a) ⊎ List·Memᴰ x xs → (List·Memᴰ x xs → List·Memᴰ (first xs) xs × T (f (first xs)))
-          → List·Memᴰ (elim b [ true ↦ a | false ↦ first xs ]) (a ∷ xs) × T (f (elim b [ true ↦ a | false ↦ first xs ]))
-      by true e c g = (List·Memᴰ·head refl, true-T e)
-      by false e (inl c) g = absurd (subst T e (subst (λ (y : X). T (f y)) c t))
-      by false e (inr n) g = let r = g n in (List·Memᴰ·tail (r .0), r .1)
 
 -- ---- the nodes of an arrangement
 

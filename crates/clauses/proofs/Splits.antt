@@ -8,7 +8,7 @@ use lib.Dec.{T, eqb, eqb→eq, T-not}
 use lib.ListN.{length, getD}
 use Rattle.rules.specs.Relations.{someBelow, eachBelow, relations, within}
 use Rattle.rules.specs.Tables.{cell}
-use Rattle.rules.proofs.Tests.{and-T, T-and-left, T-and-right, T-or, each-at, some-out}
+use Rattle.rules.proofs.Tests.{and-T, T-and-left, T-and-right, T-or, each-at, each-at-both, some-out}
 use Rattle.rules.proofs.Arrangements.{One}
 use Rattle.clauses.specs.Clauses.{Boards, Part, Disjoint, DisjointUnion}
 use Rattle.clauses.proofs.Unions.{union-in}
@@ -65,6 +65,5 @@ module _ (v : ℕ) (t : List ℕ) (g : ℕ → Bool) (cs : List ℕ) (n : ℕ) (
             ⊎-elim (λ e. d (eqb→eq i j e))
             (λ e. T-not (within x (getD cs i 0) && within x (getD cs j 0)) e (and-T (within x (getD cs i 0)) (within x (getD cs j 0)) p q))
             (T-or (eqb i j) (not (within x (getD cs i 0) && within x (getD cs j 0)))
-            (each-at (length cs) (λ j. eqb i j || not (within x (getD cs i 0) && within x (getD cs j 0)))
-            (each-at (length cs) (λ i. eachBelow (length cs) (λ j. eqb i j || not (within x (getD cs i 0) && within x (getD cs j 0))))
-            (T-and-right (covers g cs x && passes g cs x) (divides g cs x) (tested z h)) i l) j m))
+            (each-at-both (length cs) (length cs) (λ i j. eqb i j || not (within x (getD cs i 0) && within x (getD cs j 0)))
+            (T-and-right (covers g cs x && passes g cs x) (divides g cs x) (tested z h)) i j l m))

@@ -5,7 +5,7 @@ use mathlib.Core.Bool.{Bool, true, false, _&&_, _||_}
 use mathlib.Core.Logic.{_⊎_}
 use mathlib.Core.List.{List, [], _∷_, map, flatMap, List·Memᴰ}
 use Prim.Native.Nat.{ℕ, suc, _-_, _^_, _≤_, _<_}
-use lib.Dec.{T, eqb}
+use lib.Dec.{T, eqb, leb}
 use lib.ListN.{length, getD, take, drop}
 use Rattle.rules.specs.Relations.{relations, E, A, B, S}
 use Rattle.rules.specs.Expressions.{Tree, same, above, below, side, or, and, not, inv, written, denoted}
@@ -91,7 +91,7 @@ everything z = true
 
 -- ---- the clauses, over v boards, their nodes and the choice variables
 
--- 25 to 31: the values of the choice variable, which is 1, 2, 3 or 4, that a relation allows; and the inverse operator, which exchanges above and below
+-- 25 to 31: the values of the choice variable that a relation allows; and the inverse operator, which exchanges above and below
 unfoldable pub values : Tree → ℕ → Bool
 -- 25
 values same c = eqb c 1
@@ -106,9 +106,9 @@ values (or R Q) c = values R c || values Q c
 -- 30
 values (and R Q) c = values R c && values Q c
 -- 31
-values (not R) c = elim (values R c) [ true ↦ false | false ↦ true ]
+values (not R) c = elim (values R c) [ true ↦ false | false ↦ leb 1 c && leb c relations ]
 -- 002, section 5.1
-values (inv R) c = values R (getD (1 ∷ 3 ∷ 2 ∷ 4 ∷ []) (c - 1) 0)
+values (inv R) c = values R (getD (0 ∷ 1 ∷ 3 ∷ 2 ∷ 4 ∷ []) c 0)
 
 module _ (v : ℕ) (N : Nodes) (C : ℕ → ℕ → ℕ) where
   -- the sets of board x

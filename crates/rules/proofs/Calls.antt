@@ -3,14 +3,13 @@
 -- Assumes nothing.
 use mathlib.Core.Path.{_≡_, refl, sym, ap, _∙_, subst}
 use mathlib.Core.Bool.{Bool, true, false, not}
-use mathlib.Core.Logic.{⊎-elim}
 use mathlib.Core.List.{List, [], _∷_}
 use Prim.Native.Nat.{ℕ, suc, _+_, _*_, _≤_, _<_}
 use native.Mathlib.Nat.{mul-le-mul, mul-suc}
 use native.Mathlib.Omega.{arith}
-use lib.Dec.{T, eqb, ltb, eqb→eq, eqb-refl, ltb→lt, lt→ltb, nltb→le}
+use lib.Dec.{T, eqb, ltb, eqb→eq, eqb-refl, ltb→lt, lt→ltb}
 use lib.Pow.{pow-pos}
-use lib.ListN.{length, getD, List·getD-eq-default}
+use lib.ListN.{length, getD}
 use Rattle.rules.specs.Relations.{eachOf, relations, sets, has, size}
 use Rattle.rules.specs.Descriptions.{mostBoards, Sheet, Reading, good, refused, read, WellFormed}
 use Rattle.rules.specs.Tables.{Table, Inside, cell, at, emptied, total}
@@ -18,9 +17,9 @@ use Rattle.rules.specs.Arrangements.{Arrangement}
 use Rattle.rules.specs.Closed.{strikes}
 use Rattle.rules.specs.Closing.{rules}
 use Rattle.rules.specs.Calls.{Outcome, refuse, wellFormed, given, idle, arranged}
-use Rattle.rules.proofs.Tests.{T-true, T-false, and-T, T-and-left, T-and-right, T-decide, count-most}
+use Rattle.rules.proofs.Tests.{T-true, T-false, and-T, T-and-left, T-and-right, count-most}
 use Rattle.rules.proofs.Sets.{within-⊆, ⊆-within, size-one, size-single, size-pos, some-member}
-use Rattle.rules.proofs.Members.{each-of-in, each-of-out, each-of-places, member-at}
+use Rattle.rules.proofs.Members.{each-of-in, each-of-out, each-of-places, member-at, everywhere}
 use Rattle.rules.proofs.Inside.{each-place, in-range, total-mono}
 use Rattle.rules.proofs.Rules.{closed-idle, idle-closed}
 use Rattle.rules.proofs.Arrangements.{Singles, arrangement-closed, closed-arrangement}
@@ -38,17 +37,13 @@ unfolding wellFormed
 wellFormed-table v t h =
     record {
       cells = eqb→eq (length t) (v * v) (T-and-left (eqb (length t) (v * v)) (eachOf (λ x. ltb x sets) t) h);
-      small = λ k. ⊎-elim (inner k) (outer k) (T-decide (ltb k (length t)));
+      small = everywhere (λ k x. x < sets) t inner (λ k. pow-pos relations);
     }
   where
-    inner : (k : ℕ) → T (ltb k (length t)) → getD t k 0 < sets
+    inner : (k : ℕ) → k < length t → getD t k 0 < sets
     inner k l =
         ltb→lt (getD t k 0) sets
-        (each-of-out (λ x. ltb x sets) t (T-and-right (eqb (length t) (v * v)) (eachOf (λ x. ltb x sets) t) h) (getD t k 0)
-        (member-at t k (ltb→lt k (length t) l)))
-
-    outer : (k : ℕ) → T (not (ltb k (length t))) → getD t k 0 < sets
-    outer k n = subst (λ (x : ℕ). x < sets) (sym (List·getD-eq-default t 0 (nltb→le k (length t) n))) (pow-pos relations)
+        (each-of-out (λ x. ltb x sets) t (T-and-right (eqb (length t) (v * v)) (eachOf (λ x. ltb x sets) t) h) (getD t k 0) (member-at t k l))
 
 -- ---- what comes before the rest of a call
 

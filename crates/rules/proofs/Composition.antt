@@ -4,8 +4,8 @@ use mathlib.Core.Path.{_≡_, refl, subst}
 use mathlib.Core.Bool.{_&&_}
 use Prim.Native.Nat.{ℕ, _^_, _<_}
 use lib.Dec.{T, eqb, ltb, eqb→eq, ltb→lt}
-use Rattle.rules.specs.Relations.{someBelow, eachBelow, relations, sets, E, has, setTo, setOf, opposite, converse, singles, composed, compose, _⊆_}
-use Rattle.rules.proofs.Tests.{and-T, T-and-left, T-and-right, some-in, some-out, each-at}
+use Rattle.rules.specs.Relations.{someBelow, relations, sets, E, has, setTo, setOf, opposite, converse, singles, composed, compose, _⊆_}
+use Rattle.rules.proofs.Tests.{and-T, T-and-left, T-and-right, some-in, some-out, each-at, each-at-both}
 use Rattle.rules.proofs.Digits.{has-zero}
 use Rattle.rules.proofs.Sets.{setOf-small, setOf-in, setOf-out, ⊆-zero}
 
@@ -126,13 +126,11 @@ pub converse-compose : (x y : ℕ) → x < sets → y < sets → converse (compo
 unfolding relations has setTo setOf opposite converse singles composed compose
 converse-compose x y h k =
     eqb→eq (converse (compose x y)) (compose (converse y) (converse x))
-    (each-at sets (λ y. eqb (converse (compose x y)) (compose (converse y) (converse x)))
-    (each-at sets (λ x. eachBelow sets (λ y. eqb (converse (compose x y)) (compose (converse y) (converse x)))) tt x h) y k)
+    (each-at-both sets sets (λ x y. eqb (converse (compose x y)) (compose (converse y) (converse x))) tt x y h k)
 
 -- the composition of two single relations is what the table of sixteen says
 pub compose-single : (r s : ℕ) → r < relations → s < relations → compose (2 ^ r) (2 ^ s) ≡ composed r s
 unfolding relations has setTo setOf singles composed compose
 compose-single r s h k =
     eqb→eq (compose (2 ^ r) (2 ^ s)) (composed r s)
-    (each-at relations (λ s. eqb (compose (2 ^ r) (2 ^ s)) (composed r s))
-    (each-at relations (λ r. eachBelow relations (λ s. eqb (compose (2 ^ r) (2 ^ s)) (composed r s))) tt r h) s k)
+    (each-at-both relations relations (λ r s. eqb (compose (2 ^ r) (2 ^ s)) (composed r s)) tt r s h k)

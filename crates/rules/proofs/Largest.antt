@@ -8,18 +8,18 @@ use Prim.Native.Nat.{ℕ, zero, suc, _+_, _*_, _≤_, _<_}
 use native.Mathlib.Nat.{not-suc-le-zero}
 use native.Mathlib.Omega.{arith}
 use lib.Pow.{pow-pos}
-use lib.Dec.{T, eqb, ltb, eqb→eq, eqb-refl, ltb→lt, nltb→le}
-use lib.ListN.{length, getD, replicate, length-replicate, getD-replicate, List·getD-eq-default}
+use lib.Dec.{T, eqb, eqb→eq, eqb-refl}
+use lib.ListN.{length, getD, replicate, length-replicate}
 use lib.Seq.{ext-getD}
 use Rattle.rules.specs.Relations.{relations, sets, _⊆_, converse, compose}
 use Rattle.rules.specs.Descriptions.{Sheet}
 use Rattle.rules.specs.Tables.{Table, Inside, cell, emptied, total}
 use Rattle.rules.specs.Closed.{Closed, Largest}
 use Rattle.rules.specs.Closing.{Rule, Idle, rules, strike, sweep, sweeps, closing}
-use Rattle.rules.proofs.Tests.{true-T, T-decide}
+use Rattle.rules.proofs.Tests.{true-T}
 use Rattle.rules.proofs.Sets.{⊆-trans, ⊆-zero, zero-⊆}
 use Rattle.rules.proofs.Composition.{converse-zero, compose-zero-left}
-use Rattle.rules.proofs.Members.{All}
+use Rattle.rules.proofs.Members.{All, zeros}
 use Rattle.rules.proofs.Inside.{each-place, inside-refl, inside-trans, inside-antisym, total-mono, total-tight, emptied-out}
 use Rattle.rules.proofs.Strikes.{strike-table, strike-inside, strike-keeps, strike-idle}
 use Rattle.rules.proofs.Rules.{Grows, rules-grow, closed-idle, idle-closed}
@@ -123,10 +123,7 @@ blank v = replicate (v * v) 0
 
 blank-at : (v k : ℕ) → getD (blank v) k 0 ≡ 0
 unfolding blank
-blank-at v k =
-    ⊎-elim (λ l. getD-replicate (v * v) k 0 0 (ltb→lt k (v * v) l))
-    (λ n. List·getD-eq-default (replicate (v * v) 0) 0
-    (subst (λ (m : ℕ). m ≤ k) (sym (length-replicate (v * v) 0)) (nltb→le k (v * v) n))) (T-decide (ltb k (v * v)))
+blank-at v k = zeros (v * v) k
 
 blank-table : (v : ℕ) → Table v (blank v)
 unfolding blank

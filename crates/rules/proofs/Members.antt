@@ -6,11 +6,11 @@ use mathlib.Core.List.{List, [], _∷_, _++_, map, flatMap, List·Memᴰ, List·
 use Prim.Native.Nat.{ℕ, zero, suc, _+_, _≤_, _<_}
 use native.Mathlib.Nat.{eq-or-lt-of-le, not-suc-le-zero, le-of-suc-le-suc}
 use native.Mathlib.Omega.{arith}
-use lib.Dec.{T}
-use lib.ListN.{length, getD}
+use lib.Dec.{T, ltb, ltb→lt, nltb→le}
+use lib.ListN.{length, getD, replicate, List·getD-eq-default}
 use Rattle.rules.specs.Relations.{someOf, eachOf}
 use Rattle.rules.specs.Tables.{range, upTo}
-use Rattle.rules.proofs.Tests.{true-T}
+use Rattle.rules.proofs.Tests.{true-T, T-decide}
 
 module _ {A : Type 0} (P : A → Type 0) where
   -- P holds of each member of the list
@@ -86,6 +86,23 @@ module _ {A : Type 0} (f : A → Bool) where
       go false c (inl e) g h = absurd (g e)
       go false c (inr n) g h = h n
 
+-- the first of a list at which a test passes, or d
+module _ {A : Type 0} (f : A → Bool) (d : A) where
+  pub first : List A → A
+  first [] = d
+  first (x ∷ xs) = elim (f x) [ true ↦ x | false ↦ first xs ]
+
+  pub first-in : (xs : List A) (x : A) → List·Memᴰ x xs → T (f x) → List·Memᴰ (first xs) xs × T (f (first xs))
+  unfolding first
+  first-in [] x m t = absurd (List·Memᴰ·not-nil m)
+  first-in (a ∷ xs) x m t = by (f a) refl (List·Memᴰ·cases-cons m) (λ n. first-in xs x n t)
+    where
+      by : (b : Bool) → f a ≡ b → (x ≡ a) ⊎ List·Memᴰ x xs → (List·Memᴰ x xs → List·Memᴰ (first xs) xs × T (f (first xs)))
+          → List·Memᴰ (elim b [ true ↦ a | false ↦ first xs ]) (a ∷ xs) × T (f (elim b [ true ↦ a | false ↦ first xs ]))
+      by true e c g = (List·Memᴰ·head refl, true-T e)
+      by false e (inl c) g = absurd (subst T e (subst (λ (y : A). T (f y)) c t))
+      by false e (inr n) g = let r = g n in (List·Memᴰ·tail (r .0), r .1)
+
 -- the members of a list are what stands at its places
 pub member-at : (xs : List ℕ) (k : ℕ) → k < length xs → List·Memᴰ (getD xs k 0) xs
 member-at [] k h = absurd (not-suc-le-zero h)
@@ -100,6 +117,18 @@ at-member (y ∷ xs) x m = go (List·Memᴰ·cases-cons m) (λ n. at-member xs x
         → (k : ℕ) × (k < suc (length xs)) × (getD (y ∷ xs) k 0 ≡ x)
     go (inl e) f = (0, omega arith, sym e)
     go (inr n) f = let r = f n in let l : r .0 < length xs = r .1 in (suc (r .0), omega arith, r .2)
+
+-- what holds at each place of a list, and of 0 beyond it, holds at every place
+pub everywhere : (P : ℕ → ℕ → Type 0) (xs : List ℕ) → ((k : ℕ) → k < length xs → P k (getD xs k 0)) → ((k : ℕ) → P k 0) → (k : ℕ) → P k (getD xs k 0)
+everywhere P xs h z k =
+    ⊎-elim (λ l. h k (ltb→lt k (length xs) l))
+    (λ n. subst (P k) (sym (List·getD-eq-default xs 0 (nltb→le k (length xs) n))) (z k)) (T-decide (ltb k (length xs)))
+
+-- every place of a list of zeros has 0
+pub zeros : (n k : ℕ) → _≡_ {A = ℕ} (getD (replicate n 0) k 0) 0
+zeros zero k = refl
+zeros (suc n) zero = refl
+zeros (suc n) (suc k) = zeros n k
 
 -- what stands at a place of a list whose elements are each put through f
 pub at-map : {X Y : Type 0} (f : X → Y) (xs : List X) (i : ℕ) (d : X) (e : Y) → i < length xs → getD (map f xs) i e ≡ f (getD xs i d)

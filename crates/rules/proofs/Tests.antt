@@ -123,6 +123,10 @@ each-at (suc n) f t i h = go (f n) (eachBelow n f) refl t (below-suc h) (λ u l.
     go true c e t (inr l) g = g t l
     go false c e t d g = absurd t
 
+-- a test of two numbers
+pub each-at-both : (n m : ℕ) (f : ℕ → ℕ → Bool) → T (eachBelow n (λ i. eachBelow m (f i))) → (i j : ℕ) → i < n → j < m → T (f i j)
+each-at-both n m f t i j h l = each-at m (f i) (each-at n (λ i. eachBelow m (f i)) t i h) j l
+
 pub each-all : (n : ℕ) (f : ℕ → Bool) → ((i : ℕ) → i < n → T (f i)) → T (eachBelow n f)
 each-all zero f h = tt
 each-all (suc n) f h = go (f n) (eachBelow n f) (h n (omega arith)) (each-all n f (λ i l. h i (omega arith)))

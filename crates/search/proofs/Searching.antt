@@ -1,7 +1,7 @@
 -- What the search call answers and leaves, by the first closing and by how the tries end. Assumes nothing.
-use mathlib.Core.Path.{_≡_, refl, sym, ap, _∙_, subst}
+use mathlib.Core.Path.{_≡_, sym, ap, _∙_, subst}
 use mathlib.Core.List.{List}
-use Prim.Native.Nat.{ℕ, zero, suc, _≤_, _<_}
+use Prim.Native.Nat.{ℕ, _≤_, _<_}
 use native.Mathlib.Omega.{arith}
 use lib.Dec.{T}
 use lib.Pow.{pow-pos}
@@ -13,6 +13,7 @@ use Rattle.rules.specs.Closed.{Largest}
 use Rattle.rules.specs.Closing.{closing}
 use Rattle.rules.specs.Search.{End, found, none, choose, places, search, Capped, ended, ranOut, cap}
 use Rattle.rules.specs.Calls.{Outcome, refuse, answer, searching}
+use Rattle.rules.proofs.Members.{zeros}
 use Rattle.rules.proofs.Largest.{closing-largest, largest-unique}
 use Rattle.rules.proofs.Search.{cap-in}
 use Rattle.rules.proofs.Calls.{given-refused, given-no-table, given-good}
@@ -98,11 +99,6 @@ module _ (ord ws t : List ℕ) (b : ℕ) {s : Sheet} (means : read ws ≡ good s
       search-ended ord ws t b s means table first (k .largest) (k .filled) w e h
 
 -- ---- room for the choices
-
-zeros : (n m : ℕ) → _≡_ {A = ℕ} (getD (replicate n 0) m 0) 0
-zeros zero m = refl
-zeros (suc n) zero = refl
-zeros (suc n) (suc m) = zeros n m
 
 pub room-bytes : {v : ℕ} {r : List ℕ} → v ≤ mostBoards → r ≡ replicate mostPairs 0 → Bytes v r
 room-bytes {v} {r} h e =

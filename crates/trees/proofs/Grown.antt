@@ -1,20 +1,20 @@
 -- Every arrangement comes from a tree: its boards' paths and all that is above them, where each kind line's code stands at its board.
 -- Assumes nothing.
 use mathlib.Core.Path.{_≡_, refl, sym, ap, ap₂, _∙_, subst}
-use mathlib.Core.Bool.{Bool, not, decide, decide-iff}
-use mathlib.Core.Logic.{_⊎_, inl, inr, ⊎-elim}
+use mathlib.Core.Bool.{Bool, decide, decide-iff}
+use mathlib.Core.Logic.{inl, inr, ⊎-elim}
 use mathlib.Core.List.{List, [], _∷_, map, List-discrete, List·Memᴰ, Memᴰ·cast}
 use Prim.Native.Nat.{ℕ, zero, suc, _+_, _^_, _<_}
 use native.Mathlib.Omega.{arith}
 use native.Mathlib.Decide.{ℕ-discrete}
-use lib.Dec.{T, ltb, lt→ltb, T-not}
+use lib.Dec.{T, ltb, lt→ltb}
 use lib.ListN.{length, getD}
-use Rattle.rules.specs.Relations.{someOf, relations, E, A, B, S, has}
+use Rattle.rules.specs.Relations.{relations, E, A, B, S, has}
 use Rattle.rules.specs.Descriptions.{RelationLine, KindLine, Sheet, WellFormed}
 use Rattle.rules.specs.Tables.{at, range, upTo}
 use Rattle.rules.specs.Arrangements.{way, width, Arrangement}
-use Rattle.rules.proofs.Tests.{T-true, true-T, T-decide, and-T}
-use Rattle.rules.proofs.Members.{some-of-in, some-of-out, upTo-in, upTo-out}
+use Rattle.rules.proofs.Tests.{T-true, true-T, and-T}
+use Rattle.rules.proofs.Members.{first, first-in, upTo-in, upTo-out}
 use Rattle.rules.proofs.Digits.{has-single}
 use Rattle.rules.proofs.Arrangements.{panel, fed}
 use Rattle.boards.proofs.Order.{Over, same-turned, above-turned, below-turned}
@@ -31,27 +31,16 @@ module _ (s : Sheet) (spot : ℕ → Place) (x : Place) where
   is-at : KindLine → Bool
   is-at k = decide (List-discrete ℕ-discrete (spot (k .p)) x)
 
-  code-if : T (someOf is-at (s .kinds)) ⊎ T (not (someOf is-at (s .kinds))) → ℕ
-  code-if (inl d) = some-of-out is-at (s .kinds) d .0 .code
-  code-if (inr d) = 0
+  -- the first kind line whose board is at x, or one with code 0
+  line-at : KindLine
+  line-at = first is-at (record { p = 0; code = 0; ways = [] }) (s .kinds)
 
-  -- the code of a kind line whose board is at x
-  code-at : ℕ
-  code-at = code-if (T-decide (someOf is-at (s .kinds)))
-
-  -- it is the code of each kind line whose board is at x, if these have one code
-  code-found : (k : KindLine) → List·Memᴰ k (s .kinds) → spot (k .p) ≡ x
-      → ((l : KindLine) → List·Memᴰ l (s .kinds) → spot (l .p) ≡ x → l .code ≡ k .code) → code-at ≡ k .code
-  unfolding is-at code-if code-at
-  code-found k m e agree = go (T-decide (someOf is-at (s .kinds)))
-    where
-      go : (d : T (someOf is-at (s .kinds)) ⊎ T (not (someOf is-at (s .kinds)))) → code-if d ≡ k .code
-      go (inl d) =
-          let r = some-of-out is-at (s .kinds) d in
-          agree (r .0) (r .1) (decide-iff (List-discrete ℕ-discrete (spot (r .0 .p)) x) .0 (T-true (r .2)))
-      go (inr d) =
-          absurd (T-not (someOf is-at (s .kinds)) d
-          (some-of-in is-at (s .kinds) k m (true-T (decide-iff (List-discrete ℕ-discrete (spot (k .p)) x) .1 e))))
+  -- where some kind line's board is at x, so is the board of the line that is found
+  line-found : (k : KindLine) → List·Memᴰ k (s .kinds) → spot (k .p) ≡ x → List·Memᴰ line-at (s .kinds) × (spot (line-at .p) ≡ x)
+  unfolding is-at line-at
+  line-found k m e =
+      let r = first-in is-at (record { p = 0; code = 0; ways = [] }) (s .kinds) k m (true-T (decide-iff (List-discrete ℕ-discrete (spot (k .p)) x) .1 e)) in
+      (r .0, decide-iff (List-discrete ℕ-discrete (spot (line-at .p)) x) .0 (T-true (r .1)))
 
 module _ {s : Sheet} {t : List ℕ} (a : Arrangement s t) (number : ℕ → ℕ) where
   -- the place of a board is its path
@@ -60,7 +49,7 @@ module _ {s : Sheet} {t : List ℕ} (a : Arrangement s t) (number : ℕ → ℕ)
 
   -- the tree of an arrangement, its boards numbered so
   pub grown : Placement (s .boards)
-  grown = spread (s .boards) spot (λ x. code-at s spot x)
+  grown = spread (s .boards) spot (λ x. line-at s spot x .code)
 
   spot-path : {b : ℕ} → b < s .boards → PathOf (s .boards) (Over s t) number b (spot b)
   unfolding spot
@@ -177,13 +166,12 @@ module _ {s : Sheet} (f : WellFormed s) {t : List ℕ} (a : Arrangement s t) whe
 
     home-code : drawn a .tree .code (home a (k .p)) ≡ k .code
     unfolding grown
-    home-code = code-found s (home a) (home a (k .p)) k m refl agree
-      where
-        agree : (l : KindLine) → List·Memᴰ l (s .kinds) → home a (l .p) ≡ home a (k .p) → l .code ≡ k .code
-        agree l w e =
-            let q = panel f l w in
-            let p = panel f k m in
-            a .rule7 l k w m (over-same a q p (path-same (boards-forest a) (numbers-numbered f a) (home-path a q) (home-path a p) e)) .0 .0
+    home-code =
+        let l = line-at s (home a) (home a (k .p)) in
+        let r = line-found s (home a) (home a (k .p)) k m refl in
+        let q = panel f l (r .0) in
+        let p = panel f k m in
+        a .rule7 l k (r .0) m (over-same a q p (path-same (boards-forest a) (numbers-numbered f a) (home-path a q) (home-path a p) (r .1))) .0 .0
 
     panel-holds : Panel (drawn a) k
     panel-holds = record {

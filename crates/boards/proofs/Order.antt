@@ -6,7 +6,7 @@ use mathlib.Core.List.{List}
 use Prim.Native.Nat.{ℕ, zero, suc, _+_, _*_, _^_, _<_}
 use native.Mathlib.Omega.{arith}
 use lib.Dec.{T}
-use Rattle.rules.specs.Relations.{relations, same, above, below, side, E, A, B, S, has, setTo, setOf, _⊆_, opposite, converse, singles, composed, compose}
+use Rattle.rules.specs.Relations.{relations, same, above, below, side, E, A, B, S, has, setTo, setOf, _liesWithin_, opposite, converse, singles, composed, compose}
 use Rattle.rules.specs.Descriptions.{Sheet}
 use Rattle.rules.specs.Tables.{at}
 use Rattle.rules.specs.Arrangements.{Arrangement}
@@ -30,7 +30,7 @@ one-of-four x (suc (suc (suc (suc r))), h, e) = let z : ⊥ = omega arith in abs
 -- ---- what the table of sixteen says of same, above and below
 
 -- above what is below: same, above or below, and not side
-above-below : (x : ℕ) → One x → x ⊆ compose A B → (x ≡ E) ⊎ ((x ≡ A) ⊎ (x ≡ B))
+above-below : (x : ℕ) → One x → x liesWithin compose A B → (x ≡ E) ⊎ ((x ≡ A) ⊎ (x ≡ B))
 unfolding relations has setTo setOf singles composed compose
 above-below x o s = by (one-of-four x o)
   where
@@ -50,7 +50,7 @@ module _ {s : Sheet} {t : List ℕ} (a : Arrangement s t) where
       → at s t p q ≡ 2 ^ i → at s t q r ≡ 2 ^ j → at s t p r ≡ 2 ^ k
   follows i j k hi hj c p q r hp hq hr d e =
       one-within (a .single p r hp hr) k
-      (subst (λ (x : ℕ). at s t p r ⊆ x) (ap₂ compose d e ∙ compose-single i j hi hj ∙ c) (a .rule3 p q r hp hq hr))
+      (subst (λ (x : ℕ). at s t p r liesWithin x) (ap₂ compose d e ∙ compose-single i j hi hj ∙ c) (a .rule3 p q r hp hq hr))
 
   -- the other way round it is the opposite
   pub turns : (i : ℕ) → i < relations → (p q : ℕ) → p < s .boards → q < s .boards → at s t p q ≡ 2 ^ i → at s t q p ≡ 2 ^ opposite i
@@ -119,7 +119,7 @@ module _ {s : Sheet} {t : List ℕ} (a : Arrangement s t) where
     same-rows e =
         let o = a .single q r hq hr in
         one-within (a .single p r hp hr) (o .0)
-        (subst (λ (x : ℕ). at s t p r ⊆ x)
+        (subst (λ (x : ℕ). at s t p r liesWithin x)
         (ap (λ (x : ℕ). compose x (at s t q r)) e ∙ compose-E-left (at s t q r) (a .table .small (s .boards * q + r)) ∙ o .2) (a .rule3 p q r hp hq hr))
         ∙ sym (o .2)
 
@@ -129,7 +129,7 @@ module _ {s : Sheet} {t : List ℕ} (a : Arrangement s t) where
         o .2
         ∙ sym
         (one-within (a .single p r hp hr) (o .0)
-        (subst (λ (x : ℕ). at s t p r ⊆ x)
+        (subst (λ (x : ℕ). at s t p r liesWithin x)
         (ap (compose (at s t p q)) e ∙ compose-E-right (at s t p q) (a .table .small (s .boards * p + q)) ∙ o .2) (a .rule3 p q r hp hq hr)))
 
   -- two boards that are both at or above a third: one is at or above the other
@@ -139,7 +139,7 @@ module _ {s : Sheet} {t : List ℕ} (a : Arrangement s t) where
   over-chain p q r hp hq hr (inr d) (inr e) =
       by
       (above-below (at s t p q) (a .single p q hp hq)
-      (subst (λ (x : ℕ). at s t p q ⊆ x) (ap₂ compose d (above-turned q r hq hr e)) (a .rule3 p r q hp hr hq)))
+      (subst (λ (x : ℕ). at s t p q liesWithin x) (ap₂ compose d (above-turned q r hq hr e)) (a .rule3 p r q hp hr hq)))
     where
       by : (at s t p q ≡ E) ⊎ ((at s t p q ≡ A) ⊎ (at s t p q ≡ B)) → Over s t p q ⊎ Over s t q p
       by (inl g) = inl (inl g)

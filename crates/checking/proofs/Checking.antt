@@ -15,7 +15,7 @@ use Rattle.rules.specs.Closed.{Closed}
 use Rattle.rules.specs.Closing.{rules, closing}
 use Rattle.rules.specs.Calls.{Outcome, refuse, succeed, idle, arranged, check}
 use Rattle.rules.proofs.Tests.{T-true, T-false, true-T, and-T, T-and-left}
-use Rattle.rules.proofs.Sets.{⊆-within}
+use Rattle.rules.proofs.Sets.{lies-within}
 use Rattle.rules.proofs.Members.{each-of-in, each-of-out, each-of-places, member-at}
 use Rattle.rules.proofs.Inside.{inside-refl, total-mono, total-tight, emptied-inside}
 use Rattle.rules.proofs.Descriptions.{read-wellFormed}
@@ -96,7 +96,7 @@ module _ (ws t : List ℕ) where
       unfolding arranged
       closed-arranged e c =
           and-T (singles t) (eachOf (idle (s .boards) t) (rules s)) (true-T e)
-          (each-of-in (idle (s .boards) t) (rules s) (λ r m. ⊆-within (closed-idle c r m)))
+          (each-of-in (idle (s .boards) t) (rules s) (λ r m. lies-within (closed-idle c r m)))
 
       same-closed : {w : List ℕ} {n : ℕ} → Closes s t w n → n ≡ 0 → Closed s t
       same-closed {w} {n} k z =

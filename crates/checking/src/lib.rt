@@ -3,7 +3,7 @@ ghost use mathlib.Core.Path.{_≡_};
 ghost use lib.ListN.{length, getD};
 ghost use lib.Dec.{eqb};
 ghost use Prim.Native.Nat.{ℕ, _<_};
-ghost use Rattle.rules.specs.Relations.{eachOf, sets, size};
+ghost use Rattle.rules.specs.Relations.{eachOf, setLimit, size};
 ghost use Rattle.rules.specs.Calls.{check};
 ghost use Rattle.answers.specs.Answers.{outcome};
 ghost use Rattle.headers.specs.declared.HeaderFound.the-variants.{Good};
@@ -19,7 +19,7 @@ pub const NO_ARRANGEMENT: u8 = 10;
 
 // Each cell has one relation.
 fn decided(cells: &[u8]) -> bool
-    requires { ⌜ ((k : ℕ) → getD (now cells) k 0 < sets) ⌝ }
+    requires { ⌜ ((k : ℕ) → getD (now cells) k 0 < setLimit) ⌝ }
     ensures { λ b. ⌜ b ≡ eachOf (λ x. eqb (size x) 1) (now (cells .entry)) ⌝ }
 {
     for i in 0..cells.len() {

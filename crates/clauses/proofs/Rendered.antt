@@ -10,14 +10,14 @@ use native.Mathlib.Omega.{arith}
 use lib.Dec.{T, eqb, ltb, eqb→eq, eqb-refl}
 use lib.ListN.{length, getD, length-map}
 use lib.Seq.{ext-getD}
-use Rattle.rules.specs.Relations.{someOf, eachBelow, countBelow, relations, same, above, below, side, E, A, B, S, has, setTo, setOf, within, _⊆_, opposite, converse, singles, composed, compose}
+use Rattle.rules.specs.Relations.{someOf, eachBelow, countBelow, relations, same, above, below, side, E, A, B, S, has, setTo, setOf, within, _liesWithin_, opposite, converse, singles, composed, compose}
 use Rattle.rules.specs.Expressions.{denoted}
 use Rattle.rules.specs.Descriptions.{KindLine, WellFormed}
 use Rattle.rules.specs.Tables.{cell}
 use Rattle.rules.specs.Arrangements.{way, width, Arrangement}
 use Rattle.rules.proofs.Tests.{T-decide, T-differ, each-at}
 use Rattle.rules.proofs.Members.{some-of-in, some-of-out, first, first-in, member-at, at-member, at-map}
-use Rattle.rules.proofs.Sets.{within-⊆, ⊆-within, ⊆-eq, ⊆-trans, ⊆-single}
+use Rattle.rules.proofs.Sets.{within-lies, lies-within, lies-eq, lies-trans, lies-single}
 use Rattle.rules.proofs.Composition.{converse-mono, compose-mono}
 use Rattle.rules.proofs.Arrangements.{One, one-within, panel, fed}
 use Rattle.boards.proofs.Order.{one-of-four, turns, same-turned, above-turned, below-turned, same-rows}
@@ -128,31 +128,31 @@ module _ (φ : Description) {t : List ℕ} (a : Arrangement (sheet φ) t) where
       }
 
   -- board z is in the row set c of board x exactly if the cell lies within c
-  lies : (c x z : ℕ) → x < φ .boards → z < φ .boards → T (row (φ .boards) t c (node φ t x) z) → cell (φ .boards) t x z ⊆ c
-  lies c x z hx hz u = within-⊆ (cell (φ .boards) t x z) c (subst (λ (d : ℕ). T (within d c)) (own-row x z hx hz) u)
+  lies : (c x z : ℕ) → x < φ .boards → z < φ .boards → T (row (φ .boards) t c (node φ t x) z) → cell (φ .boards) t x z liesWithin c
+  lies c x z hx hz u = within-lies (cell (φ .boards) t x z) c (subst (λ (d : ℕ). T (within d c)) (own-row x z hx hz) u)
 
-  laid : (c x z : ℕ) → x < φ .boards → z < φ .boards → cell (φ .boards) t x z ⊆ c → T (row (φ .boards) t c (node φ t x) z)
-  laid c x z hx hz u = subst (λ (d : ℕ). T (within d c)) (sym (own-row x z hx hz)) (⊆-within u)
+  laid : (c x z : ℕ) → x < φ .boards → z < φ .boards → cell (φ .boards) t x z liesWithin c → T (row (φ .boards) t c (node φ t x) z)
+  laid c x z hx hz u = subst (λ (d : ℕ). T (within d c)) (sym (own-row x z hx hz)) (lies-within u)
 
   -- y has relation i to x, so what is in the row set c of x is in the row set d of y
   carry : (i c d : ℕ) → T (within (compose (2 ^ i) c) d) → (x y : ℕ) → x < φ .boards → y < φ .boards → cell (φ .boards) t y x ≡ 2 ^ i
       → Part (φ .boards) (row (φ .boards) t c (node φ t x)) (row (φ .boards) t d (node φ t y))
   carry i c d f x y hx hy e z hz u =
       laid d y z hy hz
-      (⊆-trans (a .rule3 y x z hy hx hz) (⊆-trans (compose-mono (⊆-eq e) (lies c x z hx hz u)) (within-⊆ (compose (2 ^ i) c) d f)))
+      (lies-trans (a .rule3 y x z hy hx hz) (lies-trans (compose-mono (lies-eq e) (lies c x z hx hz u)) (within-lies (compose (2 ^ i) c) d f)))
 
   -- a board that is in the row set c of x and in the row set d of y
   met : (c d x y z : ℕ) → x < φ .boards → y < φ .boards → z < φ .boards → T (row (φ .boards) t c (node φ t x) z)
-      → T (row (φ .boards) t d (node φ t y) z) → cell (φ .boards) t x y ⊆ compose c (converse d)
+      → T (row (φ .boards) t d (node φ t y) z) → cell (φ .boards) t x y liesWithin compose c (converse d)
   met c d x y z hx hy hz p q =
-      ⊆-trans (a .rule3 x z y hx hz hy)
-      (compose-mono (lies c x z hx hz p) (⊆-trans (⊆-eq (a .rule2 y z hy hz)) (converse-mono (lies d y z hy hz q))))
+      lies-trans (a .rule3 x z y hx hz hy)
+      (compose-mono (lies c x z hx hz p) (lies-trans (lies-eq (a .rule2 y z hy hz)) (converse-mono (lies d y z hy hz q))))
 
   -- x has not relation i to y, so these row sets have nothing in common
   excluded : (i c d : ℕ) → T (within (compose c (converse d)) (2 ^ i)) → (x y : ℕ) → x < φ .boards → y < φ .boards
       → (cell (φ .boards) t x y ≡ 2 ^ i → ⊥) → Disjoint (φ .boards) (row (φ .boards) t c (node φ t x)) (row (φ .boards) t d (node φ t y))
   excluded i c d f x y hx hy n z hz p q =
-      n (one-within (a .single x y hx hy) i (⊆-trans (met c d x y z hx hy hz p q) (within-⊆ (compose c (converse d)) (2 ^ i) f)))
+      n (one-within (a .single x y hx hy) i (lies-trans (met c d x y z hx hy hz p q) (within-lies (compose c (converse d)) (2 ^ i) f)))
 
   -- clauses 6 to 11
   partitioned : (x : ℕ) → x < φ .boards → Partitioned (φ .boards) (nodes φ t) (choices φ t) x
@@ -164,7 +164,7 @@ module _ (φ : Description) {t : List ℕ} (a : Arrangement (sheet φ) t) where
         clause8 = split (λ c. true) (at-or-below ∷ A ∷ S ∷ []) tt;
         clause9 = split (λ c. within c at-or-above) (E ∷ A ∷ []) tt;
         clause10 = split (λ c. within c at-or-below) (E ∷ B ∷ []) tt;
-        clause11 = laid E x x h h (⊆-eq (a .rule1 x h));
+        clause11 = laid E x x h h (lies-eq (a .rule1 x h));
       }
     where
       split : (g : ℕ → Bool) (cs : List ℕ) → T (eachBelow relations (λ r. splits g cs (2 ^ r)))
@@ -237,7 +237,7 @@ module _ (φ : Description) {t : List ℕ} (a : Arrangement (sheet φ) t) where
         let b = W .lines .1 (line f) (Memᴰ·map line m) in
         let o = chosen .each (f .x) (f .y) (b .0) (b .1) in
         subst T (sym (ap (values (f .relation)) (o .3) ∙ values-denoted (f .relation) (o .0) (o .1)))
-        (⊆-single (o .1) (subst (λ (c : ℕ). c ⊆ denoted (f .relation)) (o .2) (a .rule4 (line f) (Memᴰ·map line m))))
+        (lies-single (o .1) (subst (λ (c : ℕ). c liesWithin denoted (f .relation)) (o .2) (a .rule4 (line f) (Memᴰ·map line m))))
 
     module _ (k : KindLine) (m : List·Memᴰ k (φ .labels)) where
       -- labels of boards that are the same are the same terms
@@ -299,15 +299,15 @@ module _ (φ : Description) {t : List ℕ} (a : Arrangement (sheet φ) t) where
               → (i : ℕ) × (i < width k) × ((cell (φ .boards) t (way k i) z ≡ E) ⊎ (cell (φ .boards) t (way k i) z ≡ A))
               → (i : ℕ) × (i < width k) × T (row (φ .boards) t at-or-above (node φ t (way k i)) z)
           from z hz (i, h, d) =
-              let s : cell (φ .boards) t (way k i) z ⊆ at-or-above =
-              ⊎-elim (λ e. ⊆-trans (⊆-eq e) (within-⊆ E at-or-above tt)) (λ e. ⊆-trans (⊆-eq e) (within-⊆ A at-or-above tt)) d in
+              let s : cell (φ .boards) t (way k i) z liesWithin at-or-above =
+              ⊎-elim (λ e. lies-trans (lies-eq e) (within-lies E at-or-above tt)) (λ e. lies-trans (lies-eq e) (within-lies A at-or-above tt)) d in
               (i, h, laid at-or-above (way k i) z (fed W k m i h) hz s)
 
           apart : (i j : ℕ) → i < width k → j < width k → (i ≡ j → ⊥)
               → Disjoint (φ .boards) (row (φ .boards) t at-or-above (node φ t (way k i))) (row (φ .boards) t at-or-above (node φ t (way k j)))
           apart i j h g d z hz p q =
-              let s : S ⊆ compose at-or-above (converse at-or-above) =
-              subst (λ (c : ℕ). c ⊆ compose at-or-above (converse at-or-above)) (a .rule5′ k m i j h g d)
+              let s : S liesWithin compose at-or-above (converse at-or-above) =
+              subst (λ (c : ℕ). c liesWithin compose at-or-above (converse at-or-above)) (a .rule5′ k m i j h g d)
               (met at-or-above at-or-above (way k i) (way k j) z (fed W k m i h) (fed W k m j g) hz p q) in
               s .member side (omega arith) tt
 
@@ -323,12 +323,12 @@ module _ (φ : Description) {t : List ℕ} (a : Arrangement (sheet φ) t) where
           at-panel : cell (φ .boards) t z (k .p) ≡ E → T (row (φ .boards) t at-or-below (node φ t (k .p)) z)
           at-panel e =
               laid at-or-below (k .p) z (panel W k m) hz
-              (⊆-trans (⊆-eq (same-turned a z (k .p) hz (panel W k m) e)) (within-⊆ E at-or-below tt))
+              (lies-trans (lies-eq (same-turned a z (k .p) hz (panel W k m) e)) (within-lies E at-or-below tt))
 
           over-panel : cell (φ .boards) t z (k .p) ≡ A → T (row (φ .boards) t at-or-below (node φ t (k .p)) z)
           over-panel e =
               laid at-or-below (k .p) z (panel W k m) hz
-              (⊆-trans (⊆-eq (above-turned a z (k .p) hz (panel W k m) e)) (within-⊆ B at-or-below tt))
+              (lies-trans (lies-eq (above-turned a z (k .p) hz (panel W k m) e)) (within-lies B at-or-below tt))
 
       -- what is at or above the panel is above a way
       falls : (i : ℕ) → i < width k → Part (φ .boards) (row (φ .boards) t at-or-below (node φ t (k .p))) (row (φ .boards) t B (node φ t (way k i)))

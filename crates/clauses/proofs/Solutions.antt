@@ -9,7 +9,7 @@ use native.Mathlib.Nat.{suc-inj}
 use native.Mathlib.Omega.{arith}
 use lib.Dec.{T, eqb, eqb→eq, eqb-refl}
 use lib.ListN.{length, getD, length-map}
-use Rattle.rules.specs.Relations.{relations, below, side, sets, E, A, B, S, has, _⊆_, opposite, converse, composed, compose}
+use Rattle.rules.specs.Relations.{relations, below, side, setLimit, E, A, B, S, has, _liesWithin_, opposite, converse, composed, compose}
 use Rattle.rules.specs.Expressions.{denoted}
 use Rattle.rules.specs.Descriptions.{RelationLine, KindLine, WellFormed}
 use Rattle.rules.specs.Tables.{cell}
@@ -17,7 +17,7 @@ use Rattle.rules.specs.Arrangements.{way, width, Alike, Arrangement}
 use Rattle.rules.proofs.Tests.{T-true, T-false, T-ext, T-or, and-T}
 use Rattle.rules.proofs.Members.{at-map}
 use Rattle.rules.proofs.Digits.{has-single, single-has}
-use Rattle.rules.proofs.Sets.{single-⊆, single-small}
+use Rattle.rules.proofs.Sets.{single-lies, single-small}
 use Rattle.rules.proofs.Composition.{compose-in, converse-single}
 use Rattle.rules.proofs.Arrangements.{One, panel, fed}
 use Rattle.boards.proofs.Made.{made, made-table, made-cell}
@@ -203,13 +203,13 @@ module _ {φ : Description} (W : WellFormed (sheet φ)) {N : Nodes} {C : ℕ →
           side-links j k hj hk (one-beside p q r hp hq hr j k ej ek (taken 4 (C p q) (P .tree .pairs p q hp hq .clause15) e))
       linked (suc (suc (suc (suc i)))) j k h hj hk e ej ek = let z : ⊥ = omega arith in absurd z
 
-      keeps3 : cell (φ .boards) t p r ⊆ compose (cell (φ .boards) t p q) (cell (φ .boards) t q r)
+      keeps3 : cell (φ .boards) t p r liesWithin compose (cell (φ .boards) t p q) (cell (φ .boards) t q r)
       keeps3 =
           let a = H .each p q hp hq in
           let b = H .each q r hq hr in
           let c = H .each p r hp hr in
-          subst (λ (x : ℕ). x ⊆ compose (cell (φ .boards) t p q) (cell (φ .boards) t q r)) (sym (c .2))
-          (single-⊆ (c .0) _
+          subst (λ (x : ℕ). x liesWithin compose (cell (φ .boards) t p q) (cell (φ .boards) t q r)) (sym (c .2))
+          (single-lies (c .0) _
           (compose-in _ _ (a .0) (b .0) (c .0) (a .1) (b .1) (c .1) (subst (λ (x : ℕ). T (has x (a .0))) (sym (a .2)) (has-single (a .0)))
           (subst (λ (x : ℕ). T (has x (b .0))) (sym (b .2)) (has-single (b .0)))
           (linked (a .0) (b .0) (c .0) (a .1) (b .1) (c .1) (a .3) (b .2) (c .2))))
@@ -225,16 +225,16 @@ module _ {φ : Description} (W : WellFormed (sheet φ)) {N : Nodes} {C : ℕ →
         (linked p q p hp hq hp (a .0) (b .0) 0 (a .1) (b .1) (omega arith) (a .3) (b .2) (keeps1 p hp))) in
         b .2 ∙ ap (λ (n : ℕ). 2 ^ n) e ∙ sym (converse-single (a .0) (a .1)) ∙ ap converse (sym (a .2))
 
-    keeps4 : (l : RelationLine) → List·Memᴰ l (map line (φ .formulas)) → cell (φ .boards) t (l .p) (l .q) ⊆ l .allowed
+    keeps4 : (l : RelationLine) → List·Memᴰ l (map line (φ .formulas)) → cell (φ .boards) t (l .p) (l .q) liesWithin l .allowed
     keeps4 l m = from (Memᴰ·of-map line (φ .formulas) m)
       where
-        from : (f : Formula) × List·Memᴰ f (φ .formulas) × (line f ≡ l) → cell (φ .boards) t (l .p) (l .q) ⊆ l .allowed
+        from : (f : Formula) × List·Memᴰ f (φ .formulas) × (line f ≡ l) → cell (φ .boards) t (l .p) (l .q) liesWithin l .allowed
         from (f, n, e) =
             let b = W .lines .1 (line f) (Memᴰ·map line n) in
             let a = H .each (f .x) (f .y) (b .0) (b .1) in
-            subst (λ (l : RelationLine). cell (φ .boards) t (l .p) (l .q) ⊆ l .allowed) e
-            (subst (λ (x : ℕ). x ⊆ denoted (f .relation)) (sym (a .2))
-            (single-⊆ (a .0) (denoted (f .relation))
+            subst (λ (l : RelationLine). cell (φ .boards) t (l .p) (l .q) liesWithin l .allowed) e
+            (subst (λ (x : ℕ). x liesWithin denoted (f .relation)) (sym (a .2))
+            (single-lies (a .0) (denoted (f .relation))
             (subst T (ap (values (f .relation)) (a .3) ∙ values-denoted (f .relation) (a .0) (a .1)) (P .formulas f n))))
 
     module _ (k : KindLine) (m : List·Memᴰ k (φ .labels)) where
@@ -345,7 +345,7 @@ chooses-some {φ} {C = C} P = (made (φ .boards) single, record { table = made-t
     within : (x y : ℕ) → x < φ .boards → y < φ .boards → C x y - 1 < relations
     within x y hx hy = omega (arith, P .tree .pairs x y hx hy .choice)
 
-    small : (x y : ℕ) → x < φ .boards → y < φ .boards → 2 ^ (C x y - 1) < sets
+    small : (x y : ℕ) → x < φ .boards → y < φ .boards → 2 ^ (C x y - 1) < setLimit
     small x y hx hy = single-small (within x y hx hy)
 
     each : (x y : ℕ) → x < φ .boards → y < φ .boards

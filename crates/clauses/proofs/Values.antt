@@ -1,8 +1,7 @@
 -- Clauses 25 to 31 of 001 and the inverse operator agree with the meaning of expressions: a value of the choice variable is allowed exactly if its
 -- relation is a member of the set. Assumes nothing.
 use mathlib.Core.Path.{_≡_, refl, sym, ap, ap₂, _∙_, subst}
-use mathlib.Core.Bool.{Bool, true, false, _&&_, _||_}
-use mathlib.Core.Bool as Bool
+use mathlib.Core.Bool.{Bool, true, false, not, _&&_, _||_}
 use mathlib.Core.List.{[], _∷_}
 use Prim.Native.Nat.{ℕ, zero, suc, _^_, _<_}
 use native.Mathlib.Nat.{suc-inj}
@@ -10,7 +9,7 @@ use native.Mathlib.Omega.{arith}
 use lib.Dec.{T, eqb, leb, eqb→eq, eqb-refl, le→leb}
 use lib.ListN.{getD}
 use Rattle.rules.specs.Relations.{relations, has, join, meet, complement, opposite, converse}
-use Rattle.rules.specs.Expressions.{Tree, same, above, below, side, or, and, not, inv, denoted}
+use Rattle.rules.specs.Expressions.{Phrase, onlyE, onlyA, onlyB, onlyS, unionOf, intersectionOf, complementOf, inverseOf, denoted}
 use Rattle.rules.proofs.Digits.{has-single, single-has}
 use Rattle.rules.proofs.Sets.{has-setOf}
 use Rattle.rules.proofs.Tests.{T-true, and-T, T-ext}
@@ -37,21 +36,21 @@ one-value i r = T-ext (eqb (suc r) (suc i)) (has (2 ^ i) r) there back
     back t = subst (λ (j : ℕ). T (eqb (suc r) (suc j))) (single-has i r t) (eqb-refl (suc r))
 
 -- a value that is not allowed is among the others, being one of the four
-other : (b : Bool) (r : ℕ) → r < relations → elim b [ true ↦ false | false ↦ leb 1 (suc r) && leb (suc r) relations ] ≡ Bool.not b
+other : (b : Bool) (r : ℕ) → r < relations → elim b [ true ↦ false | false ↦ leb 1 (suc r) && leb (suc r) relations ] ≡ not b
 other true r h = refl
 other false r h = T-true (and-T (leb 1 (suc r)) (leb (suc r) relations) (le→leb 1 (suc r) (omega arith)) (le→leb (suc r) relations h))
 
 -- a value of the choice variable is allowed exactly if its relation is in the set that the expression stands for
-pub values-denoted : (R : Tree) (r : ℕ) → r < relations → values R (suc r) ≡ has (denoted R) r
+pub values-denoted : (R : Phrase) (r : ℕ) → r < relations → values R (suc r) ≡ has (denoted R) r
 unfolding values denoted join meet complement converse
-values-denoted same r h = one-value 0 r
-values-denoted above r h = one-value 1 r
-values-denoted below r h = one-value 2 r
-values-denoted side r h = one-value 3 r
-values-denoted (or R Q) r h =
+values-denoted onlyE r h = one-value 0 r
+values-denoted onlyA r h = one-value 1 r
+values-denoted onlyB r h = one-value 2 r
+values-denoted onlyS r h = one-value 3 r
+values-denoted (unionOf R Q) r h =
     ap₂ _||_ (values-denoted R r h) (values-denoted Q r h) ∙ sym (has-setOf (λ r. has (denoted R) r || has (denoted Q) r) r h)
-values-denoted (and R Q) r h =
+values-denoted (intersectionOf R Q) r h =
     ap₂ _&&_ (values-denoted R r h) (values-denoted Q r h) ∙ sym (has-setOf (λ r. has (denoted R) r && has (denoted Q) r) r h)
-values-denoted (not R) r h = other (values R (suc r)) r h ∙ ap Bool.not (values-denoted R r h) ∙ sym (has-setOf (λ r. Bool.not (has (denoted R) r)) r h)
-values-denoted (inv R) r h =
+values-denoted (complementOf R) r h = other (values R (suc r)) r h ∙ ap not (values-denoted R r h) ∙ sym (has-setOf (λ r. not (has (denoted R) r)) r h)
+values-denoted (inverseOf R) r h =
     ap (values R) (turned r h) ∙ values-denoted R (opposite r) (opposite-small r h) ∙ sym (has-setOf (λ r. has (denoted R) (opposite r)) r h)

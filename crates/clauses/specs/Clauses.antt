@@ -8,7 +8,7 @@ use Prim.Native.Nat.{ℕ, suc, _-_, _^_, _≤_, _<_}
 use lib.Dec.{T, eqb, leb}
 use lib.ListN.{length, getD, take, drop}
 use Rattle.rules.specs.Relations.{relations, E, A, B, S}
-use Rattle.rules.specs.Expressions.{Tree, same, above, below, side, or, and, not, inv, written, denoted}
+use Rattle.rules.specs.Expressions.{Phrase, onlyE, onlyA, onlyB, onlyS, unionOf, intersectionOf, complementOf, inverseOf, written, denoted}
 use Rattle.rules.specs.Descriptions.{RelationLine, KindLine, Sheet}
 use Rattle.rules.specs.Tables.{cell, Table}
 use Rattle.rules.specs.Arrangements.{way, width}
@@ -18,7 +18,7 @@ use Rattle.rules.specs.Arrangements.{way, width}
 -- x R y
 pub record Formula : Type 0 where
   pub x : ℕ
-  pub relation : Tree
+  pub relation : Phrase
   pub y : ℕ
 
 -- a description: the variables are the boards, its conjuncts x R y and x : f(y1, ..., yn)
@@ -92,23 +92,23 @@ everything z = true
 -- ---- the clauses, over v boards, their nodes and the choice variables
 
 -- 25 to 31: the values of the choice variable that a relation allows; and the inverse operator, which exchanges above and below
-unfoldable pub values : Tree → ℕ → Bool
+unfoldable pub values : Phrase → ℕ → Bool
 -- 25
-values same c = eqb c 1
+values onlyE c = eqb c 1
 -- 26
-values above c = eqb c 2
+values onlyA c = eqb c 2
 -- 27
-values below c = eqb c 3
+values onlyB c = eqb c 3
 -- 28
-values side c = eqb c 4
+values onlyS c = eqb c 4
 -- 29
-values (or R Q) c = values R c || values Q c
+values (unionOf R Q) c = values R c || values Q c
 -- 30
-values (and R Q) c = values R c && values Q c
+values (intersectionOf R Q) c = values R c && values Q c
 -- 31
-values (not R) c = elim (values R c) [ true ↦ false | false ↦ leb 1 c && leb c relations ]
+values (complementOf R) c = elim (values R c) [ true ↦ false | false ↦ leb 1 c && leb c relations ]
 -- 002, section 5.1
-values (inv R) c = values R (getD (0 ∷ 1 ∷ 3 ∷ 2 ∷ 4 ∷ []) c 0)
+values (inverseOf R) c = values R (getD (0 ∷ 1 ∷ 3 ∷ 2 ∷ 4 ∷ []) c 0)
 
 module _ (v : ℕ) (N : Nodes) (C : ℕ → ℕ → ℕ) where
   -- the sets of board x

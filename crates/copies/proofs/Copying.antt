@@ -8,7 +8,7 @@ use borrow.Author.Count.{below-more}
 use borrow.Author.Tests.{not-true, not-false}
 use lib.Dec.{T, eqb, eqb-refl, ltb, lt→ltb, ltb→lt}
 use lib.ListN.{length, getD, replicate, length-replicate}
-use Rattle.rules.specs.Relations.{eachOf, relations, sets}
+use Rattle.rules.specs.Relations.{eachOf, relations, setLimit}
 use Rattle.rules.specs.Descriptions.{mostBoards}
 use Rattle.rules.specs.Tables.{Table}
 use Rattle.rules.specs.Calls.{wellFormed}
@@ -21,7 +21,7 @@ use Rattle.copies.specs.Copies.{Copied}
 
 -- b says whether the first i cells of t are sets
 pub record Said (t : List ℕ) (i : ℕ) (b : Bool) : Type 0 where
-  pub so : T b → (k : ℕ) → k < i → getD t k 0 < sets
+  pub so : T b → (k : ℕ) → k < i → getD t k 0 < setLimit
   pub not-so : T (not b) → (k : ℕ) × (k < i) × (15 < getD t k 0)
 
 pub said-none : (t : List ℕ) → Said t 0 true
@@ -33,7 +33,7 @@ module _ (t : List ℕ) (i : ℕ) where
   unfolding relations
   said-set s h =
       record {
-        so = λ a. below-more (λ k. getD t k 0 < sets) i (s .so a) (omega arith);
+        so = λ a. below-more (λ k. getD t k 0 < setLimit) i (s .so a) (omega arith);
         not-so = λ a. let d = s .not-so a in (d .0, omega (arith, d .1), d .2);
       }
 
@@ -44,14 +44,14 @@ pub copied-all : {t w : List ℕ} {i : ℕ} {b : Bool} → Laid t w i → Said t
 unfolding relations
 copied-all {t} {w} {i} {b} c s h = record { said = go b refl; copy = laid-all c h }
   where
-    go : (d : Bool) → b ≡ d → b ≡ eachOf (λ x. ltb x sets) t
+    go : (d : Bool) → b ≡ d → b ≡ eachOf (λ x. ltb x setLimit) t
     go true e =
-        e ∙ sym (T-true {b = eachOf (λ x. ltb x sets) t} (each-of-places (λ x. ltb x sets) t (λ k l. lt→ltb (getD t k 0) sets (s .so (true-T e) k (omega arith)))))
+        e ∙ sym (T-true {b = eachOf (λ x. ltb x setLimit) t} (each-of-places (λ x. ltb x setLimit) t (λ k l. lt→ltb (getD t k 0) setLimit (s .so (true-T e) k (omega arith)))))
     go false e =
         let d = s .not-so (subst (λ (b : Bool). T (not b)) (sym e) tt) in
         let l : i ≤ length t = c .within in
-        e ∙ sym (T-false {b = eachOf (λ x. ltb x sets) t}
-        (λ a. let m : getD t (d .0) 0 < sets = ltb→lt (getD t (d .0) 0) sets (each-of-out (λ x. ltb x sets) t a (getD t (d .0) 0) (member-at t (d .0) (omega (arith, d .1)))) in
+        e ∙ sym (T-false {b = eachOf (λ x. ltb x setLimit) t}
+        (λ a. let m : getD t (d .0) 0 < setLimit = ltb→lt (getD t (d .0) 0) setLimit (each-of-out (λ x. ltb x setLimit) t a (getD t (d .0) 0) (member-at t (d .0) (omega (arith, d .1)))) in
         omega (arith, d .2)))
 
 -- ---- what a copy says of the table, by the test that some cell is no set
@@ -60,7 +60,7 @@ module _ {t w : List ℕ} {b : Bool} (c : Copied t w b) where
   pub copied-none : not b ≡ true → (v : ℕ) → Table v t → ⊥
   unfolding wellFormed
   copied-none e v h =
-      subst T (sym (c .said) ∙ not-true b e) (T-and-right (eqb (length t) (v * v)) (eachOf (λ x. ltb x sets) t) (table-wellFormed v t h))
+      subst T (sym (c .said) ∙ not-true b e) (T-and-right (eqb (length t) (v * v)) (eachOf (λ x. ltb x setLimit) t) (table-wellFormed v t h))
 
   pub copied-ready : {v : ℕ} → not b ≡ false → v ≤ mostBoards → length t ≡ v * v → Ready v t
   unfolding wellFormed
@@ -69,7 +69,7 @@ module _ {t w : List ℕ} {b : Bool} (c : Copied t w b) where
         boards = l;
         table =
             wellFormed-table v t
-            (and-T (eqb (length t) (v * v)) (eachOf (λ x. ltb x sets) t) (subst (λ (n : ℕ). T (eqb (length t) n)) f (eqb-refl (length t)))
+            (and-T (eqb (length t) (v * v)) (eachOf (λ x. ltb x setLimit) t) (subst (λ (n : ℕ). T (eqb (length t) n)) f (eqb-refl (length t)))
             (true-T (sym (c .said) ∙ not-false b e)));
       }
 

@@ -6,7 +6,7 @@ use native.Mathlib.Nat.{pos-of-ne-zero}
 use native.Mathlib.Omega.{arith}
 use lib.ListN.{length, getD, drop, length-drop, List·getD-eq-default}
 use lib.Seq.{drop-drop}
-use Rattle.rules.specs.Relations.{sets, E, A, B, S, join, meet, complement, converse}
+use Rattle.rules.specs.Relations.{setLimit, E, A, B, S, join, meet, complement, converse}
 use Rattle.rules.specs.Expressions.{Code, relation, two, one, unknown, Value, value, malformed, codes, code, follow, evaluate, expression}
 use Rattle.rules.proofs.Parts.{Suffix}
 use Rattle.rules.proofs.Expressions.{Ends, expression-ends, expression-step}
@@ -24,7 +24,7 @@ pub record Operand (ws : List ℕ) (x n : ℕ) : Type 0 where
   pub rest : List ℕ
   pub reads : expression ws ≡ value x rest
   pub left : length rest ≡ n
-  pub small : x < sets
+  pub small : x < setLimit
   pub suffix : Suffix ws rest
 
 pub operand : (ws : List ℕ) (x n : ℕ) → Finds ws (Set x n) → Operand ws x n
@@ -40,7 +40,7 @@ operand ws x n p = go (expression ws) refl p
           rest = rest;
           reads = e ∙ ap (λ (z : ℕ). value z rest) f;
           left = l;
-          small = subst (λ (z : ℕ). z < sets) f (d .small);
+          small = subst (λ (z : ℕ). z < setLimit) f (d .small);
           suffix = d .suffix;
         }
 

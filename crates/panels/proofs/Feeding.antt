@@ -8,14 +8,14 @@ use native.Mathlib.Omega.{arith}
 use borrow.Author.Count.{below-more}
 use lib.Dec.{T, eqb, eqb→eq, T-not}
 use lib.ListN.{length, getD}
-use Rattle.rules.specs.Relations.{relations, same, above, E, A, has, Lacks, setTo, setOf, meet, join, complement, _⊆_}
+use Rattle.rules.specs.Relations.{relations, same, above, E, A, has, Lacks, setTo, setOf, meet, join, complement, _liesWithin_}
 use Rattle.rules.specs.Descriptions.{KindLine}
 use Rattle.rules.specs.Tables.{cell}
 use Rattle.rules.specs.Closed.{Misses}
 use Rattle.rules.specs.Closing.{reaches, bound6, bound6′, Rule, Idle, lies, waysOf, rule6}
 use Rattle.rules.proofs.Tests.{true-T, or-T-left, or-T-right, T-or, T-decide, T-ext, differ-T, T-differ, order-cases}
 use Rattle.rules.proofs.Digits.{has-zero, has-single}
-use Rattle.rules.proofs.Sets.{⊆-eq, meet-small, meet-left, meet-right, some-member, shared, unshared-lacks, shared-has}
+use Rattle.rules.proofs.Sets.{lies-eq, meet-small, meet-left, meet-right, some-member, shared, unshared-lacks, shared-has}
 use Rattle.rules.proofs.Members.{all-one, one-all, all-append, append-left, append-right}
 use Rattle.rules.proofs.Rules.{all-ways, ways-all, relations-pos, same-small, misses-not, not-misses, bound6-none, says6, said6, bound6′-alone, says6′, said6′, bound6-grows, bound6′-grows}
 use Rattle.passes.specs.Passes.{Filled, Idles, Narrowed, Ready, Pass, Quiet}
@@ -117,7 +117,7 @@ module _ (v p : ℕ) (ws : List ℕ) (z : ℕ) where
   module _ (t : List ℕ) where
     -- both parts of rule 6 strike nothing
     idle6 : (((i : ℕ) → i < length ws → Misses (cell v t (getD ws i 0) z)) → Lacks (cell v t p z) above)
-        → ((i : ℕ) → i < length ws → cell v t p z ⊆ A → Alone t i → cell v t (getD ws i 0) z ⊆ join E A) → Idles v (rule6 v line z) t
+        → ((i : ℕ) → i < length ws → cell v t p z liesWithin A → Alone t i → cell v t (getD ws i 0) z liesWithin join E A) → Idles v (rule6 v line z) t
     idle6 f g =
         all-append (Idle v t) panelRule (all-one (Idle v t) (said6 v t line z f))
         (all-ways (Idle v t) line wayRule (λ i l. all-one (Idle v t) (said6′ v t line z i (g i l))))
@@ -127,7 +127,7 @@ module _ (v p : ℕ) (ws : List ℕ) (z : ℕ) where
       inside = ready-place ready p-below z-below
 
       -- a cell that is not empty and lies within {A} is A
-      only-above : Filled t → cell v t p z ⊆ A → cell v t p z ≡ A
+      only-above : Filled t → cell v t p z liesWithin A → cell v t p z ≡ A
       only-above f s = filled-one above t (v * p + z) relations-pos (ready .table) f inside s
 
       -- the cell of the panel lacks A
@@ -186,7 +186,7 @@ module _ (v p : ℕ) (ws : List ℕ) (z : ℕ) where
             (λ x d. one-all (Idle v x) (ways-all (Idle v x) line wayRule (append-right (Idle v x) panelRule (waysOf line wayRule) d) i h))
             (λ u w k. bound6′-grows v k line i z) (ready .table)
             (subst (λ (x : ℕ). v * x + z < length t) d o)
-            (same-above ∙ sym (bound6′-alone v t line z i (⊆-eq e) alone))
+            (same-above ∙ sym (bound6′-alone v t line z i (lies-eq e) alone))
             (subst (λ (x : ℕ). Narrowed t (v * x + z) 3 w n) d m)
             (λ unchanged s x c g. idle6 (λ q. absurd (misses-way (q i h))) (λ k q r a. this s k a) x c)
           where
@@ -197,9 +197,9 @@ module _ (v p : ℕ) (ws : List ℕ) (z : ℕ) where
                 ⊎-elim (λ (c : k < i). f .before k (omega arith) c r)
                 (λ c. ⊎-elim (λ (c : i < k). b .before k (omega arith) (omega arith) r) (λ (c : k ≡ i). g (sym c)) c) (order-cases k i))
 
-            this : cell v t (getD ws i 0) z ⊆ bound6′ v t line i z → (k : ℕ) → Alone t k → cell v t (getD ws k 0) z ⊆ join E A
+            this : cell v t (getD ws i 0) z liesWithin bound6′ v t line i z → (k : ℕ) → Alone t k → cell v t (getD ws k 0) z liesWithin join E A
             this s k a =
                 ⊎-elim
                 (λ c.
-                subst (λ (x : ℕ). cell v t (getD ws x 0) z ⊆ join E A) (sym (eqb→eq k i c)) (says6′ v t line z i s (⊆-eq e) alone))
+                subst (λ (x : ℕ). cell v t (getD ws x 0) z liesWithin join E A) (sym (eqb→eq k i c)) (says6′ v t line z i s (lies-eq e) alone))
                 (λ c. absurd (misses-way (a i h (T-differ c)))) (T-decide (eqb k i))

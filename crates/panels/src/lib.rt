@@ -2,7 +2,7 @@
 ghost use mathlib.Core.Path.{_≡_};
 ghost use Prim.Native.Nat.{_≤_, _<_};
 ghost use lib.ListN.{length};
-ghost use Rattle.rules.specs.Relations.{sets};
+ghost use Rattle.rules.specs.Relations.{setLimit};
 ghost use Rattle.rules.specs.Closing.{reaches, rule6, boardsOf};
 ghost use Rattle.passes.specs.Passes.{Ready, Pass, Quiet};
 ghost use Rattle.kinds.specs.Panels.{panel, Below};
@@ -16,7 +16,7 @@ const NOT_ABOVE: u8 = 13;
 
 // The set has E or A.
 fn reaches(x: u8) -> bool
-    requires { ⌜ x < sets ⌝ }
+    requires { ⌜ x < setLimit ⌝ }
     ensures { λ b. ⌜ b ≡ reaches x ⌝ }
 {
     relations::meet(x, AT_OR_ABOVE) != 0

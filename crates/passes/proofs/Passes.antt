@@ -6,11 +6,11 @@ use native.Mathlib.Nat.{zero-add, mul-le-mul}
 use native.Mathlib.Omega.{arith}
 use lib.Dec.{T, T-not}
 use lib.ListN.{length, getD}
-use Rattle.rules.specs.Relations.{relations, meet, size, _⊆_}
+use Rattle.rules.specs.Relations.{relations, meet, size, _liesWithin_}
 use Rattle.rules.specs.Descriptions.{mostBoards}
 use Rattle.rules.specs.Tables.{Table, narrowed, emptied, total, range, upTo}
 use Rattle.rules.specs.Closing.{Rule, Idle, lies}
-use Rattle.rules.proofs.Sets.{⊆-refl, ⊆-trans, meet-left, size-mono, ⊆-one}
+use Rattle.rules.proofs.Sets.{lies-refl, lies-trans, meet-left, size-mono, lies-one}
 use Rattle.rules.proofs.Members.{All, all-none, all-one, one-all, all-append, append-left, append-right}
 use Rattle.rules.proofs.Inside.{in-range, inside-refl, inside-trans, inside-antisym, total-mono, total-tight, emptied-in, emptied-inside}
 use Rattle.rules.proofs.Strikes.{strike-table, strike-inside, strike-keeps, strike-within, strike-idle, strike-total}
@@ -36,8 +36,8 @@ upTo-more i =
     ap upTo e ∙ range-more i 0 ∙ ap (λ (k : ℕ). range 0 i ++ (k ∷ [])) z
 
 -- no cell of a filled table is empty: one that lies within a single relation is that relation
-pub filled-one : {v : ℕ} (r : ℕ) (t : List ℕ) (k : ℕ) → r < relations → Table v t → Filled t → k < length t → getD t k 0 ⊆ 2 ^ r → getD t k 0 ≡ 2 ^ r
-filled-one r t k l h f i s = ⊆-one r (h .small k) l s (λ e. T-not (emptied t) f (emptied-in t k i e))
+pub filled-one : {v : ℕ} (r : ℕ) (t : List ℕ) (k : ℕ) → r < relations → Table v t → Filled t → k < length t → getD t k 0 liesWithin 2 ^ r → getD t k 0 ≡ 2 ^ r
+filled-one r t k l h f i s = lies-one r (h .small k) l s (λ e. T-not (emptied t) f (emptied-in t k i e))
 
 module _ {v : ℕ} where
   -- ---- what is kept
@@ -84,7 +84,7 @@ module _ {v : ℕ} where
         inside = strike-inside t k b;
         keeps =
             λ x j d.
-            strike-keeps t k b j (subst (λ (y : ℕ). getD x k 0 ⊆ y) (sym e) (⊆-trans (one-all (Idle v x) d) (g x t j)));
+            strike-keeps t k b j (subst (λ (y : ℕ). getD x k 0 liesWithin y) (sym e) (lies-trans (one-all (Idle v x) d) (g x t j)));
         counted = omega arith;
       })
 
@@ -146,7 +146,7 @@ module _ {v : ℕ} where
           quiet =
               λ z.
               let y : w ≡ t = kept-tight h k z in
-              f y (subst (λ (x : ℕ). getD t (v * r .row + r .column) 0 ⊆ x) e (strike-idle t (v * r .row + r .column) b (sym (m .cells) ∙ y)));
+              f y (subst (λ (x : ℕ). getD t (v * r .row + r .column) 0 liesWithin x) e (strike-idle t (v * r .row + r .column) b (sym (m .cells) ∙ y)));
         }
 
     pub pass-strike : (r : Rule) → Grows (r .bound) → {t w : List ℕ} {a b n : ℕ} → Table v t → v * r .row + r .column < length t → b ≡ r .bound t
@@ -188,10 +188,10 @@ module _ {v : ℕ} where
       → Once v (lies p q (λ t. b)) t a w (a + n)
   once-strike p q b {t} {w} {a} {n} h l m =
       record {
-        kept = kept-strike (record { row = p; column = q; bound = λ t. b }) (λ u t i. ⊆-refl b) h l refl m;
+        kept = kept-strike (record { row = p; column = q; bound = λ t. b }) (λ u t i. lies-refl b) h l refl m;
         held =
             λ x i.
-            all-one (Idle v x) (⊆-trans (i .each (v * p + q)) (subst (λ (y : List ℕ). getD y (v * p + q) 0 ⊆ b) (sym (m .cells)) (strike-within t (v * p + q) b)));
+            all-one (Idle v x) (lies-trans (i .each (v * p + q)) (subst (λ (y : List ℕ). getD y (v * p + q) 0 liesWithin b) (sym (m .cells)) (strike-within t (v * p + q) b)));
       }
 
   -- ---- what is determined

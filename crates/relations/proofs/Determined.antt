@@ -5,7 +5,7 @@ use Prim.Native.Nat.{ℕ, _+_, _*_, _/_, _%_, _^_, _<_}
 use native.Mathlib.Omega.{arith}
 use lib.ListN.{length, getD}
 use lib.Seq.{ext-getD}
-use Rattle.rules.specs.Relations.{relations, sets, meet, join, complement, converse, size, composed, compose}
+use Rattle.rules.specs.Relations.{relations, setLimit, meet, join, complement, converse, size, composed, compose}
 use Rattle.relations.specs.Composing.{Composes}
 
 module _ (x y z w : ℕ) where
@@ -40,8 +40,8 @@ unfolding relations
 composition-table-determined t u a b =
     ext-getD 0 t u (a .cells ∙ sym (b .cells))
     (λ k h.
-    let c : length t ≡ sets * sets = a .cells in
-    let x : k / sets < sets = omega arith in
-    let y : k % sets < sets = omega arith in
-    let e : sets * (k / sets) + k % sets ≡ k = omega arith in
-    subst (λ (n : ℕ). getD t n 0 ≡ getD u n 0) e (a .entry (k / sets) (k % sets) x y ∙ sym (b .entry (k / sets) (k % sets) x y)))
+    let c : length t ≡ setLimit * setLimit = a .cells in
+    let x : k / setLimit < setLimit = omega arith in
+    let y : k % setLimit < setLimit = omega arith in
+    let e : setLimit * (k / setLimit) + k % setLimit ≡ k = omega arith in
+    subst (λ (n : ℕ). getD t n 0 ≡ getD u n 0) e (a .entry (k / setLimit) (k % setLimit) x y ∙ sym (b .entry (k / setLimit) (k % setLimit) x y)))

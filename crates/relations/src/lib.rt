@@ -3,7 +3,7 @@ mod compositions;
 
 ghost use mathlib.Core.Path.{_≡_};
 ghost use Prim.Native.Nat.{_^_, _<_};
-ghost use Rattle.rules.specs.Relations.{relations, sets, meet, join, complement, converse, size, composed, compose};
+ghost use Rattle.rules.specs.Relations.{relations, setLimit, meet, join, complement, converse, size, composed, compose};
 ghost use Rattle.relations.specs.Composing.{Composes};
 
 // Same board, above, below, side.
@@ -85,7 +85,7 @@ pub fn composition_table() -> [u8; 256]
 
 // What two sets compose to, by that table.
 pub fn compose(table: &[u8; 256], x: u8, y: u8) -> u8
-    requires { ⌜ Composes (now table) × (x < sets) × (y < sets) ⌝ }
+    requires { ⌜ Composes (now table) × (x < setLimit) × (y < setLimit) ⌝ }
     ensures { λ z. ⌜ z ≡ compose x y ⌝ }
 {
     table[SETS * wide(x) + wide(y)]
@@ -93,7 +93,7 @@ pub fn compose(table: &[u8; 256], x: u8, y: u8) -> u8
 
 // The relations that both sets have.
 pub fn meet(x: u8, y: u8) -> u8
-    requires { ⌜ (x < sets) × (y < sets) ⌝ }
+    requires { ⌜ (x < setLimit) × (y < setLimit) ⌝ }
     ensures { λ z. ⌜ z ≡ meet x y ⌝ }
 {
     x & y
@@ -101,7 +101,7 @@ pub fn meet(x: u8, y: u8) -> u8
 
 // The relations that either set has.
 pub fn join(x: u8, y: u8) -> u8
-    requires { ⌜ (x < sets) × (y < sets) ⌝ }
+    requires { ⌜ (x < setLimit) × (y < setLimit) ⌝ }
     ensures { λ z. ⌜ z ≡ join x y ⌝ }
 {
     x | y
@@ -109,7 +109,7 @@ pub fn join(x: u8, y: u8) -> u8
 
 // The relations that the set lacks.
 pub fn complement(x: u8) -> u8
-    requires { ⌜ x < sets ⌝ }
+    requires { ⌜ x < setLimit ⌝ }
     ensures { λ z. ⌜ z ≡ complement x ⌝ }
 {
     FULL - x
@@ -117,7 +117,7 @@ pub fn complement(x: u8) -> u8
 
 // The set as seen from the other board.
 pub fn converse(x: u8) -> u8
-    requires { ⌜ x < sets ⌝ }
+    requires { ⌜ x < setLimit ⌝ }
     ensures { λ z. ⌜ z ≡ converse x ⌝ }
 {
     CONVERSES[wide(x)]
@@ -133,7 +133,7 @@ pub fn single(r: u8) -> u8
 
 // The number of relations in the set.
 pub fn size(x: u8) -> u32
-    requires { ⌜ x < sets ⌝ }
+    requires { ⌜ x < setLimit ⌝ }
     ensures { λ n. ⌜ n ≡ size x ⌝ }
 {
     u8::count_ones(x)

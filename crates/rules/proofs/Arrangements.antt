@@ -8,7 +8,7 @@ use native.Mathlib.Omega.{arith}
 use lib.Pow.{pow-pos}
 use lib.Dec.{T, eqb, eqb→eq, T-not, not-T}
 use lib.ListN.{length, getD}
-use Rattle.rules.specs.Relations.{someBelow, relations, same, above, side, E, A, has, Lacks, join, _⊆_}
+use Rattle.rules.specs.Relations.{someBelow, relations, same, above, side, E, A, has, Lacks, join, _liesWithin_}
 use Rattle.rules.specs.Descriptions.{KindLine, Sheet, WellFormed}
 use Rattle.rules.specs.Tables.{Table, Inside, at, emptied}
 use Rattle.rules.specs.Arrangements.{way, width, Alike, Arrangement}
@@ -16,7 +16,7 @@ use Rattle.rules.specs.Closed.{Misses, Closed, Largest}
 use Rattle.rules.specs.Closing.{reaches, agree}
 use Rattle.rules.proofs.Tests.{T-decide, T-not-not, or-T-left, or-T-right, T-or, some-in, some-out, T-differ}
 use Rattle.rules.proofs.Digits.{has-single, single-has}
-use Rattle.rules.proofs.Sets.{⊆-eq, single-⊆, join-in}
+use Rattle.rules.proofs.Sets.{lies-eq, single-lies, join-in}
 use Rattle.rules.proofs.Inside.{each-place, emptied-out}
 use Rattle.rules.proofs.Rules.{relations-pos, not-misses, agree-alike, alike-agree}
 
@@ -36,7 +36,7 @@ one-has {x} o r t = o .2 ∙ ap (λ (n : ℕ). 2 ^ n) (sym (single-has (o .0) r 
 is-has : {x : ℕ} (r : ℕ) → x ≡ 2 ^ r → T (has x r)
 is-has {x} r e = subst (λ (y : ℕ). T (has y r)) (sym e) (has-single r)
 
-pub one-within : {x : ℕ} → One x → (r : ℕ) → x ⊆ 2 ^ r → x ≡ 2 ^ r
+pub one-within : {x : ℕ} → One x → (r : ℕ) → x liesWithin 2 ^ r → x ≡ 2 ^ r
 one-within {x} o r s =
     one-has o r (subst (λ (n : ℕ). T (has x n)) (single-has r (o .0) (s .member (o .0) (o .1) (is-has (o .0) (o .2)))) (is-has (o .0) (o .2)))
 
@@ -49,13 +49,13 @@ reaches-one : {x : ℕ} → One x → T (reaches x) → (x ≡ E) ⊎ (x ≡ A)
 unfolding reaches
 reaches-one {x} o t = ⊎-elim (λ a. inl (one-has o same a)) (λ a. inr (one-has o above a)) (T-or (has x same) (has x above) t)
 
-within-join : {x : ℕ} → (x ≡ E) ⊎ (x ≡ A) → x ⊆ join E A
+within-join : {x : ℕ} → (x ≡ E) ⊎ (x ≡ A) → x liesWithin join E A
 within-join {x} (inl e) =
-    subst (λ (y : ℕ). y ⊆ join E A) (sym e)
-    (single-⊆ same (join E A) (join-in E A same (omega (arith, relations-pos)) (or-T-left (has E same) (has A same) (has-single same))))
+    subst (λ (y : ℕ). y liesWithin join E A) (sym e)
+    (single-lies same (join E A) (join-in E A same (omega (arith, relations-pos)) (or-T-left (has E same) (has A same) (has-single same))))
 within-join {x} (inr e) =
-    subst (λ (y : ℕ). y ⊆ join E A) (sym e)
-    (single-⊆ above (join E A) (join-in E A above relations-pos (or-T-right (has E above) (has A above) (has-single above))))
+    subst (λ (y : ℕ). y liesWithin join E A) (sym e)
+    (single-lies above (join E A) (join-in E A above relations-pos (or-T-right (has E above) (has A above) (has-single above))))
 
 module _ {s : Sheet} (f : WellFormed s) where
   pub panel : (k : KindLine) → List·Memᴰ k (s .kinds) → k .p < s .boards
@@ -74,14 +74,14 @@ module _ {s : Sheet} (f : WellFormed s) where
         from : (i : ℕ) × (i < width k) × ((at s t (way k i) z ≡ E) ⊎ (at s t (way k i) z ≡ A)) → ⊥
         from n = one-reaches (n .2) (g (n .0) (n .1))
 
-    closed6′ : (k : KindLine) → List·Memᴰ k (s .kinds) → (z : ℕ) → z < s .boards → (i : ℕ) → i < width k → at s t (k .p) z ⊆ A
-        → ((j : ℕ) → j < width k → (i ≡ j → ⊥) → Misses (at s t (way k j) z)) → at s t (way k i) z ⊆ join E A
+    closed6′ : (k : KindLine) → List·Memᴰ k (s .kinds) → (z : ℕ) → z < s .boards → (i : ℕ) → i < width k → at s t (k .p) z liesWithin A
+        → ((j : ℕ) → j < width k → (i ≡ j → ⊥) → Misses (at s t (way k j) z)) → at s t (way k i) z liesWithin join E A
     closed6′ k m z h i l e g = from (a .rule6 k m z h (one-within (a .single (k .p) z (panel k m) h) above e))
       where
-        from : (j : ℕ) × (j < width k) × ((at s t (way k j) z ≡ E) ⊎ (at s t (way k j) z ≡ A)) → at s t (way k i) z ⊆ join E A
+        from : (j : ℕ) × (j < width k) × ((at s t (way k j) z ≡ E) ⊎ (at s t (way k j) z ≡ A)) → at s t (way k i) z liesWithin join E A
         from n =
             ⊎-elim
-            (λ d. subst (λ (j : ℕ). at s t (way k j) z ⊆ join E A) (sym (eqb→eq i (n .0) d)) (within-join (n .2)))
+            (λ d. subst (λ (j : ℕ). at s t (way k j) z liesWithin join E A) (sym (eqb→eq i (n .0) d)) (within-join (n .2)))
             (λ d. absurd (one-reaches (n .2) (g (n .0) (n .1) (T-differ d)))) (T-decide (eqb i (n .0)))
 
     module _ (k : KindLine) (m : List·Memᴰ k (s .kinds)) (l : KindLine) (n : List·Memᴰ l (s .kinds)) where
@@ -96,18 +96,18 @@ module _ {s : Sheet} (f : WellFormed s) where
           not-T (has (at s t (k .p) (l .p)) same)
           (λ e. T-not (has (at s t (way k i) (way l i)) same) g (is-has same (a .rule7 k l m n (one-has one-board same e) .1 i h)))
 
-      closed7″ : at s t (k .p) (l .p) ⊆ E → (i : ℕ) → i < width k → at s t (way k i) (way l i) ⊆ E
-      closed7″ g i h = ⊆-eq (a .rule7 k l m n (one-within one-board same g) .1 i h)
+      closed7″ : at s t (k .p) (l .p) liesWithin E → (i : ℕ) → i < width k → at s t (way k i) (way l i) liesWithin E
+      closed7″ g i h = lies-eq (a .rule7 k l m n (one-within one-board same g) .1 i h)
 
     pub arrangement-closed : Closed s t
     arrangement-closed =
         record {
-          rule1 = λ p h. ⊆-eq (a .rule1 p h);
+          rule1 = λ p h. lies-eq (a .rule1 p h);
           rule2 = a .rule2;
           rule3 = a .rule3;
           rule4 = a .rule4;
-          rule5 = λ k m i h. ⊆-eq (a .rule5 k m i h);
-          rule5′ = λ k m i j h l d. ⊆-eq (a .rule5′ k m i j h l d);
+          rule5 = λ k m i h. lies-eq (a .rule5 k m i h);
+          rule5′ = λ k m i j h l d. lies-eq (a .rule5′ k m i j h l d);
           rule6 = closed6;
           rule6′ = closed6′;
           rule7 = closed7;

@@ -10,7 +10,7 @@ use native.Mathlib.Omega.{arith}
 use lib.Dec.{T, eqb, ltb, eqb→eq, eqb-refl, ltb→lt, lt→ltb}
 use lib.Pow.{pow-pos}
 use lib.ListN.{length, getD}
-use Rattle.rules.specs.Relations.{eachOf, relations, sets, has, size}
+use Rattle.rules.specs.Relations.{eachOf, relations, setLimit, has, size}
 use Rattle.rules.specs.Descriptions.{mostBoards, Sheet, Reading, good, refused, read, WellFormed}
 use Rattle.rules.specs.Tables.{Table, Inside, cell, at, emptied, total}
 use Rattle.rules.specs.Arrangements.{Arrangement}
@@ -18,7 +18,7 @@ use Rattle.rules.specs.Closed.{strikes}
 use Rattle.rules.specs.Closing.{rules}
 use Rattle.rules.specs.Calls.{Outcome, refuse, wellFormed, given, idle, arranged}
 use Rattle.rules.proofs.Tests.{T-true, T-false, and-T, T-and-left, T-and-right, count-most}
-use Rattle.rules.proofs.Sets.{within-⊆, ⊆-within, size-one, size-single, size-pos, some-member}
+use Rattle.rules.proofs.Sets.{within-lies, lies-within, size-one, size-single, size-pos, some-member}
 use Rattle.rules.proofs.Members.{each-of-in, each-of-out, each-of-places, member-at, everywhere}
 use Rattle.rules.proofs.Inside.{each-place, in-range, total-mono}
 use Rattle.rules.proofs.Rules.{closed-idle, idle-closed}
@@ -29,21 +29,21 @@ use Rattle.rules.proofs.Arrangements.{Singles, arrangement-closed, clos
 pub table-wellFormed : (v : ℕ) (t : List ℕ) → Table v t → T (wellFormed v t)
 unfolding wellFormed
 table-wellFormed v t h =
-    and-T (eqb (length t) (v * v)) (eachOf (λ x. ltb x sets) t) (subst (λ (n : ℕ). T (eqb (length t) n)) (h .cells) (eqb-refl (length t)))
-    (each-of-places (λ x. ltb x sets) t (λ k l. lt→ltb (getD t k 0) sets (h .small k)))
+    and-T (eqb (length t) (v * v)) (eachOf (λ x. ltb x setLimit) t) (subst (λ (n : ℕ). T (eqb (length t) n)) (h .cells) (eqb-refl (length t)))
+    (each-of-places (λ x. ltb x setLimit) t (λ k l. lt→ltb (getD t k 0) setLimit (h .small k)))
 
 pub wellFormed-table : (v : ℕ) (t : List ℕ) → T (wellFormed v t) → Table v t
 unfolding wellFormed
 wellFormed-table v t h =
     record {
-      cells = eqb→eq (length t) (v * v) (T-and-left (eqb (length t) (v * v)) (eachOf (λ x. ltb x sets) t) h);
-      small = everywhere (λ k x. x < sets) t inner (λ k. pow-pos relations);
+      cells = eqb→eq (length t) (v * v) (T-and-left (eqb (length t) (v * v)) (eachOf (λ x. ltb x setLimit) t) h);
+      small = everywhere (λ k x. x < setLimit) t inner (λ k. pow-pos relations);
     }
   where
-    inner : (k : ℕ) → k < length t → getD t k 0 < sets
+    inner : (k : ℕ) → k < length t → getD t k 0 < setLimit
     inner k l =
-        ltb→lt (getD t k 0) sets
-        (each-of-out (λ x. ltb x sets) t (T-and-right (eqb (length t) (v * v)) (eachOf (λ x. ltb x sets) t) h) (getD t k 0) (member-at t k l))
+        ltb→lt (getD t k 0) setLimit
+        (each-of-out (λ x. ltb x setLimit) t (T-and-right (eqb (length t) (v * v)) (eachOf (λ x. ltb x setLimit) t) h) (getD t k 0) (member-at t k l))
 
 -- ---- what comes before the rest of a call
 
@@ -77,7 +77,7 @@ module _ {s : Sheet} (f : WellFormed s) {t : List ℕ} where
   arrangement-arranged a =
       and-T (eachOf (λ x. eqb (size x) 1) t) (eachOf (idle (s .boards) t) (rules s))
       (each-of-places (λ x. eqb (size x) 1) t (each-place (λ k. T (eqb (size (getD t k 0)) 1)) (a .table) single))
-      (each-of-in (idle (s .boards) t) (rules s) (λ r m. ⊆-within (closed-idle (arrangement-closed f a) r m)))
+      (each-of-in (idle (s .boards) t) (rules s) (λ r m. lies-within (closed-idle (arrangement-closed f a) r m)))
     where
       single : (p q : ℕ) → p < s .boards → q < s .boards → T (eqb (size (at s t p q)) 1)
       single p q hp hq =
@@ -88,7 +88,7 @@ module _ {s : Sheet} (f : WellFormed s) {t : List ℕ} where
   arranged-arrangement h g =
       closed-arrangement f h
       (idle-closed s t h
-      (λ r m. within-⊆ (cell (s .boards) t (r .row) (r .column)) (r .bound t)
+      (λ r m. within-lies (cell (s .boards) t (r .row) (r .column)) (r .bound t)
       (each-of-out (idle (s .boards) t) (rules s) (T-and-right (eachOf (λ x. eqb (size x) 1) t) (eachOf (idle (s .boards) t) (rules s)) g) r m)))
       single
     where
@@ -106,7 +106,7 @@ unfolding total size
 total-most [] = omega arith
 total-most (x ∷ xs) = omega (arith, count-most relations (has x), total-most xs, mul-suc relations (length xs))
 
-total-least : (t : List ℕ) → ((k : ℕ) → getD t k 0 < sets) → T (not (emptied t)) → length t ≤ total t
+total-least : (t : List ℕ) → ((k : ℕ) → getD t k 0 < setLimit) → T (not (emptied t)) → length t ≤ total t
 unfolding total emptied
 total-least [] h e = omega arith
 total-least (x ∷ xs) h e = go (eqb x 0) refl e (λ g. total-least xs (λ k. h (suc k)) g)

@@ -8,7 +8,7 @@ use Prim.Native.Nat.{ℕ, suc, _+_, _*_, _^_, _≤_, _<_}
 use native.Mathlib.Omega.{arith}
 use lib.Dec.{T, ltb, ltb→lt, lt→ltb, nltb→le, T-not, not-T}
 use lib.ListN.{length, getD, set, length-set}
-use Rattle.rules.specs.Relations.{relations, E, has, size, _⊆_, converse, opposite}
+use Rattle.rules.specs.Relations.{relations, E, has, size, _liesWithin_, converse, opposite}
 use Rattle.rules.specs.Descriptions.{Sheet, WellFormed}
 use Rattle.rules.specs.Tables.{Table, Inside, at, emptied, upTo}
 use Rattle.rules.specs.Arrangements.{Arrangement}
@@ -16,7 +16,7 @@ use Rattle.rules.specs.Closed.{Closed, Largest}
 use Rattle.rules.specs.Search.{Order, End, found, none, later, proceed, orElse, attempt, choose, places, search, rank, Before}
 use Rattle.rules.proofs.Tests.{order-cases, true-T, T-decide}
 use Rattle.rules.proofs.Digits.{has-single, has-small}
-use Rattle.rules.proofs.Sets.{⊆-refl, ⊆-trans, ⊆-one, ⊆-single, size-tight, size-single, size-one, size-pos, some-member}
+use Rattle.rules.proofs.Sets.{lies-refl, lies-trans, lies-one, lies-single, size-tight, size-single, size-one, size-pos, some-member}
 use Rattle.rules.proofs.Composition.{opposite-small, converse-single}
 use Rattle.rules.proofs.Members.{All, all-none, all-one, over-all, all-over, upTo-in, upTo-out}
 use Rattle.rules.proofs.Inside.{in-range, inside-refl, inside-trans, emptied-in, emptied-inside}
@@ -78,12 +78,12 @@ rank-later r rs x t = go (has x r) t
     go false t = refl
 
 -- two single relations within a set of at most one are the same
-one-same : {x y z : ℕ} → One x → One y → x ⊆ z → y ⊆ z → size z ≤ 1 → x ≡ y
+one-same : {x y z : ℕ} → One x → One y → x liesWithin z → y liesWithin z → size z ≤ 1 → x ≡ y
 one-same {x} {y} {z} o n s t h =
     let e : size x ≡ 1 = ap size (o .2) ∙ size-single (o .0) (o .1) in
-    let b : z ⊆ x = size-tight s (omega arith) in
-    let c : 2 ^ n .0 ⊆ x = subst (λ (w : ℕ). w ⊆ x) (n .2) (⊆-trans t b) in
-    one-has o (n .0) (⊆-single (n .1) c) ∙ sym (n .2)
+    let b : z liesWithin x = size-tight s (omega arith) in
+    let c : 2 ^ n .0 liesWithin x = subst (λ (w : ℕ). w liesWithin x) (n .2) (lies-trans t b) in
+    one-has o (n .0) (lies-single (n .1) c) ∙ sym (n .2)
 
 -- ---- what is right
 
@@ -134,8 +134,8 @@ module _ {s : Sheet} (f : WellFormed s) {clo : List ℕ → List ℕ} (closes : 
         let hq : q < s .boards = omega arith in (
           0,
           z,
-          ⊆-one 0 (r .table .small (s .boards * p + q)) z
-              (subst (λ (x : ℕ). at s t p x ⊆ E) e (r .closed .rule1 p hp)) (filled p q hp hq),
+          lies-one 0 (r .table .small (s .boards * p + q)) z
+              (subst (λ (x : ℕ). at s t p x liesWithin E) e (r .closed .rule1 p hp)) (filled p q hp hq),
         )
 
     singles : Singles s t
@@ -216,8 +216,8 @@ module _ {s : Sheet} (f : WellFormed s) {clo : List ℕ → List ℕ} (closes : 
             record {
               cells = i .cells ∙ sym (length-set t k (2 ^ r));
               each =
-                  set-each (λ j x. getD u j 0 ⊆ x) t k (2 ^ r) (i .each)
-                  (subst (λ (x : ℕ). getD u k 0 ⊆ x) (one-has (arrangement-one a k valid) r h) (⊆-refl (getD u k 0)));
+                  set-each (λ j x. getD u j 0 liesWithin x) t k (2 ^ r) (i .each)
+                  (subst (λ (x : ℕ). getD u k 0 liesWithin x) (one-has (arrangement-one a k valid) r h) (lies-refl (getD u k 0)));
             }
 
         settled : (p q : ℕ) → p < q → q < s .boards

@@ -4,10 +4,10 @@ use mathlib.Core.Path.{_≡_, refl, subst}
 use mathlib.Core.Bool.{_&&_}
 use Prim.Native.Nat.{ℕ, _^_, _<_}
 use lib.Dec.{T, eqb, ltb, eqb→eq, ltb→lt}
-use Rattle.rules.specs.Relations.{someBelow, relations, sets, E, has, setTo, setOf, opposite, converse, singles, composed, compose, _⊆_}
+use Rattle.rules.specs.Relations.{someBelow, relations, setLimit, E, has, setTo, setOf, opposite, converse, singles, composed, compose, _liesWithin_}
 use Rattle.rules.proofs.Tests.{and-T, T-and-left, T-and-right, some-in, some-out, each-at, each-at-both}
 use Rattle.rules.proofs.Digits.{has-zero}
-use Rattle.rules.proofs.Sets.{setOf-small, setOf-in, setOf-out, ⊆-zero}
+use Rattle.rules.proofs.Sets.{setOf-small, setOf-in, setOf-out, lies-zero}
 
 -- ---- converse
 
@@ -15,11 +15,11 @@ pub opposite-small : (r : ℕ) → r < relations → opposite r < relations
 unfolding relations opposite
 opposite-small r h = ltb→lt (opposite r) relations (each-at relations (λ r. ltb (opposite r) relations) tt r h)
 
-pub converse-small : (x : ℕ) → converse x < sets
+pub converse-small : (x : ℕ) → converse x < setLimit
 unfolding converse
 converse-small x = setOf-small (λ r. has x (opposite r))
 
-pub converse-mono : {x y : ℕ} → x ⊆ y → converse x ⊆ converse y
+pub converse-mono : {x y : ℕ} → x liesWithin y → converse x liesWithin converse y
 unfolding converse
 converse-mono {x} {y} s =
     record {
@@ -29,9 +29,9 @@ converse-mono {x} {y} s =
           (s .member (opposite r) (opposite-small r h) (setOf-out (λ r. has x (opposite r)) r h t));
     }
 
-pub converse-converse : (x : ℕ) → x < sets → converse (converse x) ≡ x
+pub converse-converse : (x : ℕ) → x < setLimit → converse (converse x) ≡ x
 unfolding relations has setTo setOf opposite converse
-converse-converse x h = eqb→eq (converse (converse x)) x (each-at sets (λ x. eqb (converse (converse x)) x) tt x h)
+converse-converse x h = eqb→eq (converse (converse x)) x (each-at setLimit (λ x. eqb (converse (converse x)) x) tt x h)
 
 pub converse-single : (r : ℕ) → r < relations → converse (2 ^ r) ≡ 2 ^ opposite r
 unfolding relations has setTo setOf opposite converse
@@ -43,7 +43,7 @@ converse-zero = refl
 
 -- ---- composition
 
-pub compose-small : (x y : ℕ) → compose x y < sets
+pub compose-small : (x y : ℕ) → compose x y < setLimit
 unfolding compose
 compose-small x y = setOf-small (λ t. someBelow relations (λ r. has x r && someBelow relations (λ s. has y s && has (composed r s) t)))
 
@@ -92,7 +92,7 @@ compose-out x y t h u =
         (some-out relations (λ s. has y s && has (composed r s) t)
         (T-and-right (has x r) (someBelow relations (λ s. has y s && has (composed r s) t)) (m .2)))
 
-pub compose-mono : {x x′ y y′ : ℕ} → x ⊆ x′ → y ⊆ y′ → compose x y ⊆ compose x′ y′
+pub compose-mono : {x x′ y y′ : ℕ} → x liesWithin x′ → y liesWithin y′ → compose x y liesWithin compose x′ y′
 compose-mono {x} {x′} {y} {y′} a b = record { member = λ t h u. go t h (compose-out x y t h u) }
   where
     go : (t : ℕ) → t < relations → Through x y t → T (has (compose x′ y′) t)
@@ -101,32 +101,32 @@ compose-mono {x} {x′} {y} {y′} a b = record { member = λ t h u. go t h (com
         (b .member (m .s) (m .s-small) (m .second)) (m .whole)
 
 pub compose-zero-left : (y : ℕ) → compose 0 y ≡ 0
-compose-zero-left y = ⊆-zero (compose-small 0 y) (record { member = λ t h u. go t (compose-out 0 y t h u) })
+compose-zero-left y = lies-zero (compose-small 0 y) (record { member = λ t h u. go t (compose-out 0 y t h u) })
   where
     go : (t : ℕ) → Through 0 y t → T (has 0 t)
     go t m = absurd (subst T (has-zero (m .r)) (m .first))
 
 pub compose-zero-right : (x : ℕ) → compose x 0 ≡ 0
-compose-zero-right x = ⊆-zero (compose-small x 0) (record { member = λ t h u. go t (compose-out x 0 t h u) })
+compose-zero-right x = lies-zero (compose-small x 0) (record { member = λ t h u. go t (compose-out x 0 t h u) })
   where
     go : (t : ℕ) → Through x 0 t → T (has 0 t)
     go t m = absurd (subst T (has-zero (m .s)) (m .second))
 
 -- E is neutral
-pub compose-E-left : (x : ℕ) → x < sets → compose E x ≡ x
+pub compose-E-left : (x : ℕ) → x < setLimit → compose E x ≡ x
 unfolding relations has setTo setOf singles composed compose
-compose-E-left x h = eqb→eq (compose E x) x (each-at sets (λ x. eqb (compose E x) x) tt x h)
+compose-E-left x h = eqb→eq (compose E x) x (each-at setLimit (λ x. eqb (compose E x) x) tt x h)
 
-pub compose-E-right : (x : ℕ) → x < sets → compose x E ≡ x
+pub compose-E-right : (x : ℕ) → x < setLimit → compose x E ≡ x
 unfolding relations has setTo setOf singles composed compose
-compose-E-right x h = eqb→eq (compose x E) x (each-at sets (λ x. eqb (compose x E) x) tt x h)
+compose-E-right x h = eqb→eq (compose x E) x (each-at setLimit (λ x. eqb (compose x E) x) tt x h)
 
 -- the converse of a composition is that of the converses, the other way round
-pub converse-compose : (x y : ℕ) → x < sets → y < sets → converse (compose x y) ≡ compose (converse y) (converse x)
+pub converse-compose : (x y : ℕ) → x < setLimit → y < setLimit → converse (compose x y) ≡ compose (converse y) (converse x)
 unfolding relations has setTo setOf opposite converse singles composed compose
 converse-compose x y h k =
     eqb→eq (converse (compose x y)) (compose (converse y) (converse x))
-    (each-at-both sets sets (λ x y. eqb (converse (compose x y)) (compose (converse y) (converse x))) tt x y h k)
+    (each-at-both setLimit setLimit (λ x y. eqb (converse (compose x y)) (compose (converse y) (converse x))) tt x y h k)
 
 -- the composition of two single relations is what the table of sixteen says
 pub compose-single : (r s : ℕ) → r < relations → s < relations → compose (2 ^ r) (2 ^ s) ≡ composed r s

@@ -7,8 +7,8 @@ use native.Mathlib.Nat.{not-suc-le-zero, le-of-suc-le-suc, le-refl}
 use native.Mathlib.Omega.{arith}
 use lib.ListN.{length, drop, length-append}
 use lib.Seq.{drop-at}
-use Rattle.rules.specs.Relations.{relations, sets, E, A, B, S, join, meet, complement, converse}
-use Rattle.rules.specs.Expressions.{Code, relation, two, one, unknown, codes, code, Value, value, malformed, andThen, follow, evaluate, expression, Tree, same, above, below, side, or, and, not, inv, written, denoted}
+use Rattle.rules.specs.Relations.{relations, setLimit, E, A, B, S, join, meet, complement, converse}
+use Rattle.rules.specs.Expressions.{Code, relation, two, one, unknown, codes, code, Value, value, malformed, andThen, follow, evaluate, expression, Phrase, onlyE, onlyA, onlyB, onlyS, unionOf, intersectionOf, complementOf, inverseOf, written, denoted}
 use Rattle.rules.proofs.Sets.{setOf-small}
 use Rattle.rules.proofs.Parts.{Suffix, drop-suffix}
 use Rattle.rules.proofs.Tests.{clash}
@@ -32,33 +32,33 @@ allowed P k zero h f = absurd (not-suc-le-zero h)
 allowed P k (suc n) h f = f n (le-of-suc-le-suc h)
 
 -- the operands of two, one after the other
-first : (a b : Tree) (rest : List ℕ) (n : ℕ) → length (written a ++ written b) ≤ n
+first : (a b : Phrase) (rest : List ℕ) (n : ℕ) → length (written a ++ written b) ≤ n
     → (length (written a) ≤ n → evaluate n (written a ++ (written b ++ rest)) ≡ value (denoted a) (written b ++ rest))
     → evaluate n ((written a ++ written b) ++ rest) ≡ value (denoted a) (written b ++ rest)
 first a b rest n h f = rw append-assoc (f (omega (arith, length-append (written a) (written b))))
 
-second : (a b : Tree) (rest : List ℕ) (n : ℕ) → length (written a ++ written b) ≤ n
+second : (a b : Phrase) (rest : List ℕ) (n : ℕ) → length (written a ++ written b) ≤ n
     → (length (written b) ≤ n → evaluate n (written b ++ rest) ≡ value (denoted b) rest) → evaluate n (written b ++ rest) ≡ value (denoted b) rest
 second a b rest n h f = f (omega (arith, length-append (written a) (written b)))
 
-written-evaluate : (e : Tree) (rest : List ℕ) (n : ℕ) → length (written e) ≤ n → evaluate n (written e ++ rest) ≡ value (denoted e) rest
+written-evaluate : (e : Phrase) (rest : List ℕ) (n : ℕ) → length (written e) ≤ n → evaluate n (written e ++ rest) ≡ value (denoted e) rest
 unfolding evaluate code codes written denoted follow
-written-evaluate same rest n h = allowed (λ n. evaluate n (0 ∷ rest) ≡ value E rest) 0 n h (λ m g. refl)
-written-evaluate above rest n h = allowed (λ n. evaluate n (1 ∷ rest) ≡ value A rest) 0 n h (λ m g. refl)
-written-evaluate below rest n h = allowed (λ n. evaluate n (2 ∷ rest) ≡ value B rest) 0 n h (λ m g. refl)
-written-evaluate side rest n h = allowed (λ n. evaluate n (3 ∷ rest) ≡ value S rest) 0 n h (λ m g. refl)
-written-evaluate (or a b) rest n h =
+written-evaluate onlyE rest n h = allowed (λ n. evaluate n (0 ∷ rest) ≡ value E rest) 0 n h (λ m g. refl)
+written-evaluate onlyA rest n h = allowed (λ n. evaluate n (1 ∷ rest) ≡ value A rest) 0 n h (λ m g. refl)
+written-evaluate onlyB rest n h = allowed (λ n. evaluate n (2 ∷ rest) ≡ value B rest) 0 n h (λ m g. refl)
+written-evaluate onlyS rest n h = allowed (λ n. evaluate n (3 ∷ rest) ≡ value S rest) 0 n h (λ m g. refl)
+written-evaluate (unionOf a b) rest n h =
     allowed (λ n. evaluate n (4 ∷ ((written a ++ written b) ++ rest)) ≡ value (join (denoted a) (denoted b)) rest) (length (written a ++ written b)) n h
     (λ m g. binary m join _ _ rest (denoted a) (denoted b) (first a b rest m g (written-evaluate a (written b ++ rest) m))
     (second a b rest m g (written-evaluate b rest m)))
-written-evaluate (and a b) rest n h =
+written-evaluate (intersectionOf a b) rest n h =
     allowed (λ n. evaluate n (5 ∷ ((written a ++ written b) ++ rest)) ≡ value (meet (denoted a) (denoted b)) rest) (length (written a ++ written b)) n h
     (λ m g. binary m meet _ _ rest (denoted a) (denoted b) (first a b rest m g (written-evaluate a (written b ++ rest) m))
     (second a b rest m g (written-evaluate b rest m)))
-written-evaluate (not a) rest n h =
+written-evaluate (complementOf a) rest n h =
     allowed (λ n. evaluate n (6 ∷ (written a ++ rest)) ≡ value (complement (denoted a)) rest) (length (written a)) n h
     (λ m g. unary m complement (written a ++ rest) rest (denoted a) (written-evaluate a rest m g))
-written-evaluate (inv a) rest n h =
+written-evaluate (inverseOf a) rest n h =
     allowed (λ n. evaluate n (7 ∷ (written a ++ rest)) ≡ value (converse (denoted a)) rest) (length (written a)) n h
     (λ m g. unary m converse (written a ++ rest) rest (denoted a) (written-evaluate a rest m g))
 
@@ -66,9 +66,9 @@ written-evaluate (inv a) rest n h =
 
 -- the expression that the words before rest write, and that stands for x
 pub record Reads (ws : List ℕ) (x : ℕ) (rest : List ℕ) : Type 0 where
-  pub tree : Tree
-  pub words : ws ≡ written tree ++ rest
-  pub stands : denoted tree ≡ x
+  pub phrase : Phrase
+  pub words : ws ≡ written phrase ++ rest
+  pub stands : denoted phrase ≡ x
 
 -- what an operator with two operands came to
 record Both (n : ℕ) (f : ℕ → ℕ → ℕ) (ws : List ℕ) (x : ℕ) (rest : List ℕ) : Type 0 where
@@ -111,24 +111,24 @@ single-out n f ws x rest p = go (evaluate n ws) refl p
     go malformed e q = never x rest q
     go (value y last) e q = let l : last ≡ rest = cc in record { y = y; fst = e ∙ ap (value y) l; whole = cc }
 
-in-turn : (t u : Tree) {ws more : List ℕ} (rest : List ℕ) → ws ≡ written t ++ more → more ≡ written u ++ rest → ws ≡ (written t ++ written u) ++ rest
+in-turn : (t u : Phrase) {ws more : List ℕ} (rest : List ℕ) → ws ≡ written t ++ more → more ≡ written u ++ rest → ws ≡ (written t ++ written u) ++ rest
 in-turn t u rest p q = p ∙ ap (λ (l : List ℕ). written t ++ l) q ∙ sym (append-assoc (written t) (written u) rest)
 
 evaluate-written : (n : ℕ) (ws : List ℕ) (x : ℕ) (rest : List ℕ) → evaluate n ws ≡ value x rest → Reads ws x rest
 unfolding evaluate code codes follow written denoted
 evaluate-written zero ws x rest p = never x rest p
 evaluate-written (suc n) [] x rest p = never x rest p
-evaluate-written (suc n) (zero ∷ ws) x rest p = record { tree = same; words = ap (λ (l : List ℕ). 0 ∷ l) (cc); stands = cc }
-evaluate-written (suc n) (suc zero ∷ ws) x rest p = record { tree = above; words = ap (λ (l : List ℕ). 1 ∷ l) (cc); stands = cc }
-evaluate-written (suc n) (suc (suc zero) ∷ ws) x rest p = record { tree = below; words = ap (λ (l : List ℕ). 2 ∷ l) (cc); stands = cc }
-evaluate-written (suc n) (suc (suc (suc zero)) ∷ ws) x rest p = record { tree = side; words = ap (λ (l : List ℕ). 3 ∷ l) (cc); stands = cc }
+evaluate-written (suc n) (zero ∷ ws) x rest p = record { phrase = onlyE; words = ap (λ (l : List ℕ). 0 ∷ l) (cc); stands = cc }
+evaluate-written (suc n) (suc zero ∷ ws) x rest p = record { phrase = onlyA; words = ap (λ (l : List ℕ). 1 ∷ l) (cc); stands = cc }
+evaluate-written (suc n) (suc (suc zero) ∷ ws) x rest p = record { phrase = onlyB; words = ap (λ (l : List ℕ). 2 ∷ l) (cc); stands = cc }
+evaluate-written (suc n) (suc (suc (suc zero)) ∷ ws) x rest p = record { phrase = onlyS; words = ap (λ (l : List ℕ). 3 ∷ l) (cc); stands = cc }
 evaluate-written (suc n) (suc (suc (suc (suc zero))) ∷ ws) x rest p =
     let b = both-out n join ws x rest p in
     let t = evaluate-written n ws (b .y) (b .more) (b .fst) in
     let u = evaluate-written n (b .more) (b .z) rest (b .snd) in
     record {
-      tree = or (t .tree) (u .tree);
-      words = ap (λ (l : List ℕ). 4 ∷ l) (in-turn (t .tree) (u .tree) rest (t .words) (u .words));
+      phrase = unionOf (t .phrase) (u .phrase);
+      words = ap (λ (l : List ℕ). 4 ∷ l) (in-turn (t .phrase) (u .phrase) rest (t .words) (u .words));
       stands = ap₂ join (t .stands) (u .stands) ∙ b .both;
     }
 evaluate-written (suc n) (suc (suc (suc (suc (suc zero)))) ∷ ws) x rest p =
@@ -136,29 +136,29 @@ evaluate-written (suc n) (suc (suc (suc (suc (suc zero)))) ∷ ws) x rest p =
     let t = evaluate-written n ws (b .y) (b .more) (b .fst) in
     let u = evaluate-written n (b .more) (b .z) rest (b .snd) in
     record {
-      tree = and (t .tree) (u .tree);
-      words = ap (λ (l : List ℕ). 5 ∷ l) (in-turn (t .tree) (u .tree) rest (t .words) (u .words));
+      phrase = intersectionOf (t .phrase) (u .phrase);
+      words = ap (λ (l : List ℕ). 5 ∷ l) (in-turn (t .phrase) (u .phrase) rest (t .words) (u .words));
       stands = ap₂ meet (t .stands) (u .stands) ∙ b .both;
     }
 evaluate-written (suc n) (suc (suc (suc (suc (suc (suc zero))))) ∷ ws) x rest p =
     let b = single-out n complement ws x rest p in
     let t = evaluate-written n ws (b .y) rest (b .fst) in
-    record { tree = not (t .tree); words = ap (λ (l : List ℕ). 6 ∷ l) (t .words); stands = ap complement (t .stands) ∙ b .whole }
+    record { phrase = complementOf (t .phrase); words = ap (λ (l : List ℕ). 6 ∷ l) (t .words); stands = ap complement (t .stands) ∙ b .whole }
 evaluate-written (suc n) (suc (suc (suc (suc (suc (suc (suc zero)))))) ∷ ws) x rest p =
     let b = single-out n converse ws x rest p in
     let t = evaluate-written n ws (b .y) rest (b .fst) in
-    record { tree = inv (t .tree); words = ap (λ (l : List ℕ). 7 ∷ l) (t .words); stands = ap converse (t .stands) ∙ b .whole }
+    record { phrase = inverseOf (t .phrase); words = ap (λ (l : List ℕ). 7 ∷ l) (t .words); stands = ap converse (t .stands) ∙ b .whole }
 evaluate-written (suc n) (suc (suc (suc (suc (suc (suc (suc (suc w))))))) ∷ ws) x rest p = never x rest p
 
 -- ---- what an expression means
 
 -- words are read as the set x exactly if they write an expression that stands for it
-pub expression-written : (ws : List ℕ) (x : ℕ) → expression ws ≡ value x [] → (e : Tree) × (written e ≡ ws) × (denoted e ≡ x)
+pub expression-written : (ws : List ℕ) (x : ℕ) → expression ws ≡ value x [] → (e : Phrase) × (written e ≡ ws) × (denoted e ≡ x)
 unfolding expression
 expression-written ws x p =
-    let r = evaluate-written (length ws) ws x [] p in (r .tree, sym (r .words ∙ append-nil (written (r .tree))), r .stands)
+    let r = evaluate-written (length ws) ws x [] p in (r .phrase, sym (r .words ∙ append-nil (written (r .phrase))), r .stands)
 
-pub written-expression : (e : Tree) → expression (written e) ≡ value (denoted e) []
+pub written-expression : (e : Phrase) → expression (written e) ≡ value (denoted e) []
 unfolding expression
 written-expression e =
     ap (evaluate (length (written e))) (sym (append-nil (written e))) ∙ written-evaluate e [] (length (written e)) (le-refl (length (written e)))
@@ -166,8 +166,8 @@ written-expression e =
 kept : (n m : ℕ) (ws : List ℕ) (x : ℕ) (rest : List ℕ) → evaluate n ws ≡ value x rest → length ws ≤ m → evaluate m ws ≡ value x rest
 kept n m ws x rest p h =
     let r = evaluate-written n ws x rest p in
-    let l : length (written (r .tree)) ≤ m = omega (arith, ap length (r .words), length-append (written (r .tree)) rest) in
-    ap (evaluate m) (r .words) ∙ written-evaluate (r .tree) rest m l ∙ ap (λ (y : ℕ). value y rest) (r .stands)
+    let l : length (written (r .phrase)) ≤ m = omega (arith, ap length (r .words), length-append (written (r .phrase)) rest) in
+    ap (evaluate m) (r .words) ∙ written-evaluate (r .phrase) rest m l ∙ ap (λ (y : ℕ). value y rest) (r .stands)
 
 -- how many words are allowed makes no difference, once they are enough
 pub evaluate-enough : (n m : ℕ) (ws : List ℕ) → length ws ≤ n → length ws ≤ m → evaluate n ws ≡ evaluate m ws
@@ -180,31 +180,31 @@ evaluate-enough n m ws h k = go (evaluate n ws) (evaluate m ws) refl refl
 
 -- ---- an expression by its first code and the words left
 
-denoted-small : (e : Tree) → denoted e < sets
+denoted-small : (e : Phrase) → denoted e < setLimit
 unfolding relations denoted join meet complement converse
-denoted-small same = omega arith
-denoted-small above = omega arith
-denoted-small below = omega arith
-denoted-small side = omega arith
-denoted-small (or a b) = setOf-small _
-denoted-small (and a b) = setOf-small _
-denoted-small (not a) = setOf-small _
-denoted-small (inv a) = setOf-small _
+denoted-small onlyE = omega arith
+denoted-small onlyA = omega arith
+denoted-small onlyB = omega arith
+denoted-small onlyS = omega arith
+denoted-small (unionOf a b) = setOf-small _
+denoted-small (intersectionOf a b) = setOf-small _
+denoted-small (complementOf a) = setOf-small _
+denoted-small (inverseOf a) = setOf-small _
 
 -- what is read is a set, and what is left ends the words
 pub record Ends (ws : List ℕ) (x : ℕ) (rest : List ℕ) : Type 0 where
-  pub small : x < sets
+  pub small : x < setLimit
   pub suffix : Suffix ws rest
 
 evaluate-ends : (n : ℕ) (ws : List ℕ) (x : ℕ) (rest : List ℕ) → evaluate n ws ≡ value x rest → Ends ws x rest
 evaluate-ends n ws x rest p =
     let r = evaluate-written n ws x rest p in
-    let l : length ws ≡ length (written (r .tree)) + length rest = ap length (r .words) ∙ length-append (written (r .tree)) rest in
-    let d : drop (length (written (r .tree))) ws ≡ rest =
-    ap (drop (length (written (r .tree)))) (r .words) ∙ drop-at (written (r .tree)) rest _ refl in
+    let l : length ws ≡ length (written (r .phrase)) + length rest = ap length (r .words) ∙ length-append (written (r .phrase)) rest in
+    let d : drop (length (written (r .phrase))) ws ≡ rest =
+    ap (drop (length (written (r .phrase)))) (r .words) ∙ drop-at (written (r .phrase)) rest _ refl in
     record {
-      small = subst (λ (y : ℕ). y < sets) (r .stands) (denoted-small (r .tree));
-      suffix = subst (Suffix ws) d (drop-suffix (length (written (r .tree))) ws (omega arith));
+      small = subst (λ (y : ℕ). y < setLimit) (r .stands) (denoted-small (r .phrase));
+      suffix = subst (Suffix ws) d (drop-suffix (length (written (r .phrase))) ws (omega arith));
     }
 
 pub expression-ends : (ws : List ℕ) (x : ℕ) (rest : List ℕ) → expression ws ≡ value x rest → Ends ws x rest

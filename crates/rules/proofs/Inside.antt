@@ -7,10 +7,10 @@ use native.Mathlib.Omega.{arith}
 use lib.Dec.{T, eqb, eqb→eq}
 use lib.ListN.{length, getD}
 use lib.Seq.{ext-getD}
-use Rattle.rules.specs.Relations.{_⊆_}
+use Rattle.rules.specs.Relations.{_liesWithin_}
 use Rattle.rules.specs.Tables.{Table, Inside, emptied, total}
 use Rattle.rules.proofs.Members.{some-of-in, some-of-out, member-at, at-member}
-use Rattle.rules.proofs.Sets.{⊆-refl, ⊆-trans, ⊆-antisym, ⊆-zero, size-mono, size-tight}
+use Rattle.rules.proofs.Sets.{lies-refl, lies-trans, lies-antisym, lies-zero, size-mono, size-tight}
 
 -- cell (p, q) is one of the table's
 pub in-range : (v p q : ℕ) → p < v → q < v → v * p + q < v * v
@@ -31,17 +31,17 @@ each-place P {v} {t} h f k l = from (place v k (subst (λ (n : ℕ). k < n) (h .
     from m = subst P (sym (m .4)) (f (m .0) (m .1) (m .2) (m .3))
 
 pub inside-refl : (t : List ℕ) → Inside t t
-inside-refl t = record { cells = refl; each = λ k. ⊆-refl (getD t k 0) }
+inside-refl t = record { cells = refl; each = λ k. lies-refl (getD t k 0) }
 
 pub inside-trans : {t u w : List ℕ} → Inside t u → Inside u w → Inside t w
-inside-trans a b = record { cells = a .cells ∙ b .cells; each = λ k. ⊆-trans (a .each k) (b .each k) }
+inside-trans a b = record { cells = a .cells ∙ b .cells; each = λ k. lies-trans (a .each k) (b .each k) }
 
 -- two tables inside each other are equal
 pub inside-antisym : {v : ℕ} {t u : List ℕ} → Table v t → Table v u → Inside t u → Inside u t → t ≡ u
 inside-antisym {v} {t} {u} a b c d =
-    ext-getD 0 t u (c .cells) (λ k h. ⊆-antisym (a .small k) (b .small k) (c .each k) (d .each k))
+    ext-getD 0 t u (c .cells) (λ k h. lies-antisym (a .small k) (b .small k) (c .each k) (d .each k))
 
-total-le : (t u : List ℕ) → length t ≡ length u → ((k : ℕ) → getD t k 0 ⊆ getD u k 0) → total t ≤ total u
+total-le : (t u : List ℕ) → length t ≡ length u → ((k : ℕ) → getD t k 0 liesWithin getD u k 0) → total t ≤ total u
 unfolding total
 total-le [] [] e f = omega arith
 total-le [] (y ∷ ys) e f = omega arith
@@ -51,7 +51,7 @@ total-le (x ∷ xs) (y ∷ ys) e f = omega (arith, size-mono (f 0), total-le xs 
 pub total-mono : {t u : List ℕ} → Inside t u → total t ≤ total u
 total-mono {t} {u} h = total-le t u (h .cells) (h .each)
 
-total-back : (t u : List ℕ) → length t ≡ length u → ((k : ℕ) → getD t k 0 ⊆ getD u k 0) → total u ≤ total t → (k : ℕ) → getD u k 0 ⊆ getD t k 0
+total-back : (t u : List ℕ) → length t ≡ length u → ((k : ℕ) → getD t k 0 liesWithin getD u k 0) → total u ≤ total t → (k : ℕ) → getD u k 0 liesWithin getD t k 0
 unfolding total
 total-back [] [] e f l k = f k
 total-back [] (y ∷ ys) e f l k = absurd (suc-ne-zero (length ys) (sym e))
@@ -84,4 +84,4 @@ emptied-inside {v} {t} {u} h i e = from (emptied-out u e)
     from : (k : ℕ) × (k < length u) × (getD u k 0 ≡ 0) → T (emptied t)
     from m =
         emptied-in t (m .0) (subst (λ (n : ℕ). m .0 < n) (sym (i .cells)) (m .1))
-        (⊆-zero (h .small (m .0)) (subst (λ (x : ℕ). getD t (m .0) 0 ⊆ x) (m .2) (i .each (m .0))))
+        (lies-zero (h .small (m .0)) (subst (λ (x : ℕ). getD t (m .0) 0 liesWithin x) (m .2) (i .each (m .0))))

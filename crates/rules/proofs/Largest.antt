@@ -11,13 +11,13 @@ use lib.Pow.{pow-pos}
 use lib.Dec.{T, eqb, eqb→eq, eqb-refl}
 use lib.ListN.{length, getD, replicate, length-replicate}
 use lib.Seq.{ext-getD}
-use Rattle.rules.specs.Relations.{relations, sets, _⊆_, converse, compose}
+use Rattle.rules.specs.Relations.{relations, setLimit, _liesWithin_, converse, compose}
 use Rattle.rules.specs.Descriptions.{Sheet}
 use Rattle.rules.specs.Tables.{Table, Inside, cell, emptied, total}
 use Rattle.rules.specs.Closed.{Closed, Largest}
 use Rattle.rules.specs.Closing.{Rule, Idle, rules, strike, sweep, sweeps, closing}
 use Rattle.rules.proofs.Tests.{true-T}
-use Rattle.rules.proofs.Sets.{⊆-trans, ⊆-zero, zero-⊆}
+use Rattle.rules.proofs.Sets.{lies-trans, lies-zero, zero-lies}
 use Rattle.rules.proofs.Composition.{converse-zero, compose-zero-left}
 use Rattle.rules.proofs.Members.{All, zeros}
 use Rattle.rules.proofs.Inside.{each-place, inside-refl, inside-trans, inside-antisym, total-mono, total-tight, emptied-out}
@@ -59,7 +59,7 @@ module _ (v : ℕ) where
   sweep-keeps [] t g w i d = i
   sweep-keeps (r ∷ rs) t g w i d =
       let k = v * r .row + r .column in
-      sweep-keeps rs (strike v r t) (all-tail g) w (strike-keeps t k (r .bound t) i (⊆-trans (all-head d) (all-head g w t i))) (all-tail d)
+      sweep-keeps rs (strike v r t) (all-tail g) w (strike-keeps t k (r .bound t) i (lies-trans (all-head d) (all-head g w t i))) (all-tail d)
 
   -- a sweep that leaves as many relations found each rule idle
   sweep-idle : (rs : List Rule) (t : List ℕ) → Table v t → total t ≤ total (sweep v rs t) → All (Idle v t) rs
@@ -128,20 +128,20 @@ blank-at v k = zeros (v * v) k
 blank-table : (v : ℕ) → Table v (blank v)
 unfolding blank
 blank-table v =
-    record { cells = length-replicate (v * v) 0; small = λ k. subst (λ (x : ℕ). x < sets) (sym (blank-at v k)) (pow-pos relations) }
+    record { cells = length-replicate (v * v) 0; small = λ k. subst (λ (x : ℕ). x < setLimit) (sym (blank-at v k)) (pow-pos relations) }
 
 -- the all-empty table is closed
 pub blank-closed : (s : Sheet) → Closed s (blank (s .boards))
 blank-closed s =
     idle-closed s (blank (s .boards)) (blank-table (s .boards))
-    (λ r m. subst (λ (x : ℕ). x ⊆ r .bound (blank (s .boards))) (sym (blank-at (s .boards) (s .boards * r .row + r .column))) (zero-⊆ (r .bound (blank (s .boards)))))
+    (λ r m. subst (λ (x : ℕ). x liesWithin r .bound (blank (s .boards))) (sym (blank-at (s .boards) (s .boards * r .row + r .column))) (zero-lies (r .bound (blank (s .boards)))))
 
 module _ {s : Sheet} {t : List ℕ} (h : Table (s .boards) t) (c : Closed s t) where
   -- an empty cell empties its row, its column and every cell
   empty-row : (p q r : ℕ) → p < s .boards → q < s .boards → r < s .boards → cell (s .boards) t p q ≡ 0 → cell (s .boards) t p r ≡ 0
   empty-row p q r hp hq hr e =
-      ⊆-zero (h .small (s .boards * p + r))
-      (subst (λ (x : ℕ). cell (s .boards) t p r ⊆ x) (ap (λ (x : ℕ). compose x (cell (s .boards) t q r)) e ∙ compose-zero-left (cell (s .boards) t q r))
+      lies-zero (h .small (s .boards * p + r))
+      (subst (λ (x : ℕ). cell (s .boards) t p r liesWithin x) (ap (λ (x : ℕ). compose x (cell (s .boards) t q r)) e ∙ compose-zero-left (cell (s .boards) t q r))
       (c .rule3 p q r hp hq hr))
 
   empty-turn : (p q : ℕ) → p < s .boards → q < s .boards → cell (s .boards) t p q ≡ 0 → cell (s .boards) t q p ≡ 0

@@ -7,7 +7,7 @@ use mathlib.Core.List.{List, _++_, List·Memᴰ}
 use Prim.Native.Nat.{ℕ, _+_, _*_, _^_, _<_}
 use native.Mathlib.Omega.{arith}
 use lib.Dec.{T, eqb, eqb→eq, eqb-refl, not-T, T-not}
-use Rattle.rules.specs.Relations.{someBelow, eachBelow, relations, same, above, E, A, S, has, Lacks, full, join, complement, _⊆_, within, converse, compose}
+use Rattle.rules.specs.Relations.{someBelow, eachBelow, relations, same, above, E, A, S, has, Lacks, full, join, complement, _liesWithin_, within, converse, compose}
 use Rattle.rules.specs.Descriptions.{RelationLine, KindLine, Sheet}
 use Rattle.rules.specs.Tables.{cell, Table, Inside, at, upTo}
 use Rattle.rules.specs.Arrangements.{way, width, Alike}
@@ -15,7 +15,7 @@ use Rattle.rules.specs.Closed.{Misses, Closed}
 use Rattle.rules.specs.Closing.{unless, reaches, agree, bound6, bound6′, bound7, bound7′, Rule, Idle, lies, only, boardsOf, waysOf, rule6, rule7, rules1, rules2, rules3, rules4, rules5, rules6, rules7, rules}
 use Rattle.rules.proofs.Tests.{and-T, T-and-left, T-and-right, or-T-left, or-T-right, T-or, some-in, some-out, each-at, each-all, T-decide, T-not-not, differ-T, T-differ}
 use Rattle.rules.proofs.Digits.{has-single, single-has}
-use Rattle.rules.proofs.Sets.{complement-in, complement-out, ⊆-refl, ⊆-eq, ⊆-trans, ⊆-antisym, ⊆-full, within-⊆, ⊆-within}
+use Rattle.rules.proofs.Sets.{complement-in, complement-out, lies-refl, lies-eq, lies-trans, lies-antisym, lies-full, within-lies, lies-within}
 use Rattle.rules.proofs.Composition.{converse-small, converse-mono, converse-converse, compose-mono}
 use Rattle.rules.proofs.Members.{All, all-none, all-one, one-all, all-append, append-left, append-right, all-over, over-all, upTo-in, upTo-out}
 
@@ -185,8 +185,8 @@ relations-pos = omega arith
 pub same-small : same < relations
 same-small = omega (arith, relations-pos)
 
-pub unless-in : (b : Bool) (x m : ℕ) → (T (not b) → x ⊆ m) → x ⊆ unless b m
-unless-in true x m f = ⊆-full x
+pub unless-in : (b : Bool) (x m : ℕ) → (T (not b) → x liesWithin m) → x liesWithin unless b m
+unless-in true x m f = lies-full x
 unless-in false x m f = f tt
 
 -- where the test fails the set is left
@@ -194,17 +194,17 @@ unless-not : (b : Bool) (m : ℕ) → (T b → ⊥) → unless b m ≡ m
 unless-not true m f = absurd (f tt)
 unless-not false m f = refl
 
-pub unless-out : (b : Bool) (x m : ℕ) → x ⊆ unless b m → T (not b) → x ⊆ m
-unless-out b x m s t = subst (λ (y : ℕ). x ⊆ y) (unless-not b m (T-not b t)) s
+pub unless-out : (b : Bool) (x m : ℕ) → x liesWithin unless b m → T (not b) → x liesWithin m
+unless-out b x m s t = subst (λ (y : ℕ). x liesWithin y) (unless-not b m (T-not b t)) s
 
 -- to lack a relation is to lie within the others
-lacks-⊆ : (x r : ℕ) → Lacks x r → x ⊆ complement (2 ^ r)
-lacks-⊆ x r l =
+lacks-lies : (x r : ℕ) → Lacks x r → x liesWithin complement (2 ^ r)
+lacks-lies x r l =
     record
     { member = λ n h t. complement-in (2 ^ r) n h (λ u. T-not (has x r) l (subst (λ (m : ℕ). T (has x m)) (single-has r n u) t)) }
 
-⊆-lacks : (x r : ℕ) → r < relations → x ⊆ complement (2 ^ r) → Lacks x r
-⊆-lacks x r h s = not-T (has x r) (λ t. complement-out (2 ^ r) r h (s .member r h t) (has-single r))
+lies-lacks : (x r : ℕ) → r < relations → x liesWithin complement (2 ^ r) → Lacks x r
+lies-lacks x r h s = not-T (has x r) (λ t. complement-out (2 ^ r) r h (s .member r h t) (has-single r))
 
 pub misses-not : (x : ℕ) → Misses x → T (reaches x) → ⊥
 unfolding reaches
@@ -242,15 +242,15 @@ module _ (v : ℕ) (t : List ℕ) where
         from : (i : ℕ) × (i < width k) × T (reaches (cell v t (way k i) z)) → ⊥
         from m = misses-not (cell v t (way k (m .0)) z) (f (m .0) (m .1)) (m .2)
 
-    pub says6 : cell v t (k .p) z ⊆ bound6 v t k z → ((i : ℕ) → i < width k → Misses (cell v t (way k i) z)) → Lacks (cell v t (k .p) z) above
-    says6 h f = ⊆-lacks (cell v t (k .p) z) above relations-pos (subst (λ (b : ℕ). cell v t (k .p) z ⊆ b) (bound6-none f) h)
+    pub says6 : cell v t (k .p) z liesWithin bound6 v t k z → ((i : ℕ) → i < width k → Misses (cell v t (way k i) z)) → Lacks (cell v t (k .p) z) above
+    says6 h f = lies-lacks (cell v t (k .p) z) above relations-pos (subst (λ (b : ℕ). cell v t (k .p) z liesWithin b) (bound6-none f) h)
 
-    pub said6 : (((i : ℕ) → i < width k → Misses (cell v t (way k i) z)) → Lacks (cell v t (k .p) z) above) → cell v t (k .p) z ⊆ bound6 v t k z
+    pub said6 : (((i : ℕ) → i < width k → Misses (cell v t (way k i) z)) → Lacks (cell v t (k .p) z) above) → cell v t (k .p) z liesWithin bound6 v t k z
     unfolding bound6
     said6 f =
         unless-in (someBelow (width k) (λ i. reaches (cell v t (way k i) z))) (cell v t (k .p) z) (complement A)
         (λ n.
-        lacks-⊆ (cell v t (k .p) z) above
+        lacks-lies (cell v t (k .p) z) above
         (f
         (λ i h.
         not-misses (cell v t (way k i) z)
@@ -264,12 +264,12 @@ module _ (v : ℕ) (t : List ℕ) where
       abbrev others : Bool
       others = someBelow (width k) (λ j. not (eqb i j) && reaches (cell v t (way k j) z))
 
-      pub bound6′-alone : cell v t (k .p) z ⊆ A → ((j : ℕ) → j < width k → (i ≡ j → ⊥) → Misses (cell v t (way k j) z)) → bound6′ v t k i z ≡ join E A
+      pub bound6′-alone : cell v t (k .p) z liesWithin A → ((j : ℕ) → j < width k → (i ≡ j → ⊥) → Misses (cell v t (way k j) z)) → bound6′ v t k i z ≡ join E A
       unfolding bound6′
       bound6′-alone a f = unless-not (escapes || others) (join E A) (λ o. ⊎-elim left right (T-or escapes others o))
         where
           left : T escapes → ⊥
-          left e = T-not (within (cell v t (k .p) z) A) e (⊆-within a)
+          left e = T-not (within (cell v t (k .p) z) A) e (lies-within a)
 
           right : T others → ⊥
           right o = from (some-out (width k) (λ j. not (eqb i j) && reaches (cell v t (way k j) z)) o)
@@ -280,18 +280,18 @@ module _ (v : ℕ) (t : List ℕ) where
                   (f (m .0) (m .1) (T-differ (T-and-left (not (eqb i (m .0))) (reaches (cell v t (way k (m .0)) z)) (m .2))))
                   (T-and-right (not (eqb i (m .0))) (reaches (cell v t (way k (m .0)) z)) (m .2))
 
-      pub says6′ : cell v t (way k i) z ⊆ bound6′ v t k i z → cell v t (k .p) z ⊆ A
-          → ((j : ℕ) → j < width k → (i ≡ j → ⊥) → Misses (cell v t (way k j) z)) → cell v t (way k i) z ⊆ join E A
-      says6′ h a f = subst (λ (b : ℕ). cell v t (way k i) z ⊆ b) (bound6′-alone a f) h
+      pub says6′ : cell v t (way k i) z liesWithin bound6′ v t k i z → cell v t (k .p) z liesWithin A
+          → ((j : ℕ) → j < width k → (i ≡ j → ⊥) → Misses (cell v t (way k j) z)) → cell v t (way k i) z liesWithin join E A
+      says6′ h a f = subst (λ (b : ℕ). cell v t (way k i) z liesWithin b) (bound6′-alone a f) h
 
-      pub said6′ : (cell v t (k .p) z ⊆ A → ((j : ℕ) → j < width k → (i ≡ j → ⊥) → Misses (cell v t (way k j) z)) → cell v t (way k i) z ⊆ join E A)
-          → cell v t (way k i) z ⊆ bound6′ v t k i z
+      pub said6′ : (cell v t (k .p) z liesWithin A → ((j : ℕ) → j < width k → (i ≡ j → ⊥) → Misses (cell v t (way k j) z)) → cell v t (way k i) z liesWithin join E A)
+          → cell v t (way k i) z liesWithin bound6′ v t k i z
       unfolding bound6′
       said6′ f =
           unless-in (escapes || others) (cell v t (way k i) z) (join E A)
           (λ n.
           f
-          (within-⊆ (cell v t (k .p) z) A (T-not-not (within (cell v t (k .p) z) A) (λ e. T-not (escapes || others) n (or-T-left escapes others e))))
+          (within-lies (cell v t (k .p) z) A (T-not-not (within (cell v t (k .p) z) A) (λ e. T-not (escapes || others) n (or-T-left escapes others e))))
           (λ j h d.
           not-misses (cell v t (way k j) z)
           (λ a.
@@ -310,24 +310,24 @@ module _ (v : ℕ) (t : List ℕ) where
         unless-not (agree k l && paired) (complement E)
         (λ a. f (agree-alike k l (T-and-left (agree k l) paired a)) (T-and-right (agree k l) paired a))
 
-    pub lacks7 : cell v t (k .p) (l .p) ⊆ bound7 v t k l → (Alike k l → T paired → ⊥) → Lacks (cell v t (k .p) (l .p)) same
-    lacks7 h f = ⊆-lacks (cell v t (k .p) (l .p)) same same-small (subst (λ (b : ℕ). cell v t (k .p) (l .p) ⊆ b) (bound7-apart f) h)
+    pub lacks7 : cell v t (k .p) (l .p) liesWithin bound7 v t k l → (Alike k l → T paired → ⊥) → Lacks (cell v t (k .p) (l .p)) same
+    lacks7 h f = lies-lacks (cell v t (k .p) (l .p)) same same-small (subst (λ (b : ℕ). cell v t (k .p) (l .p) liesWithin b) (bound7-apart f) h)
 
-    says7 : cell v t (k .p) (l .p) ⊆ bound7 v t k l → (Alike k l → ⊥) → Lacks (cell v t (k .p) (l .p)) same
+    says7 : cell v t (k .p) (l .p) liesWithin bound7 v t k l → (Alike k l → ⊥) → Lacks (cell v t (k .p) (l .p)) same
     says7 h f = lacks7 h (λ a e. f a)
 
-    says7′ : cell v t (k .p) (l .p) ⊆ bound7 v t k l → (i : ℕ) → i < width k → Lacks (cell v t (way k i) (way l i)) same
+    says7′ : cell v t (k .p) (l .p) liesWithin bound7 v t k l → (i : ℕ) → i < width k → Lacks (cell v t (way k i) (way l i)) same
         → Lacks (cell v t (k .p) (l .p)) same
     says7′ h i g f =
         lacks7 h (λ a e. T-not (has (cell v t (way k i) (way l i)) same) f (each-at (width k) (λ i. has (cell v t (way k i) (way l i)) same) e i g))
 
     pub said7 : ((Alike k l → ⊥) → Lacks (cell v t (k .p) (l .p)) same)
         → (Alike k l → (i : ℕ) → i < width k → Lacks (cell v t (way k i) (way l i)) same → Lacks (cell v t (k .p) (l .p)) same)
-        → cell v t (k .p) (l .p) ⊆ bound7 v t k l
+        → cell v t (k .p) (l .p) liesWithin bound7 v t k l
     unfolding bound7
     said7 f g =
         unless-in (agree k l && paired) (cell v t (k .p) (l .p)) (complement E)
-        (λ n. lacks-⊆ (cell v t (k .p) (l .p)) same (⊎-elim (λ a. alike (agree-alike k l a) a n) (λ d. f (λ a. T-not (agree k l) d (alike-agree k l a))) (T-decide (agree k l))))
+        (λ n. lacks-lies (cell v t (k .p) (l .p)) same (⊎-elim (λ a. alike (agree-alike k l a) a n) (λ d. f (λ a. T-not (agree k l) d (alike-agree k l a))) (T-decide (agree k l))))
       where
         alike : Alike k l → T (agree k l) → T (not (agree k l && paired)) → Lacks (cell v t (k .p) (l .p)) same
         alike a e n =
@@ -339,24 +339,24 @@ module _ (v : ℕ) (t : List ℕ) where
             (λ i b.
             T-not-not (has (cell v t (way k i) (way l i)) same) (λ c. T-not (has (cell v t (k .p) (l .p)) same) (g a i b c) h)))))
 
-    pub says7″ : (i : ℕ) → cell v t (way k i) (way l i) ⊆ bound7′ v t k l → cell v t (k .p) (l .p) ⊆ E → cell v t (way k i) (way l i) ⊆ E
+    pub says7″ : (i : ℕ) → cell v t (way k i) (way l i) liesWithin bound7′ v t k l → cell v t (k .p) (l .p) liesWithin E → cell v t (way k i) (way l i) liesWithin E
     unfolding bound7′
     says7″ i h a =
         unless-out (not (within (cell v t (k .p) (l .p)) E)) (cell v t (way k i) (way l i)) E h
-        (not-T (not (within (cell v t (k .p) (l .p)) E)) (λ e. T-not (within (cell v t (k .p) (l .p)) E) e (⊆-within a)))
+        (not-T (not (within (cell v t (k .p) (l .p)) E)) (λ e. T-not (within (cell v t (k .p) (l .p)) E) e (lies-within a)))
 
-    pub said7″ : (i : ℕ) → (cell v t (k .p) (l .p) ⊆ E → cell v t (way k i) (way l i) ⊆ E) → cell v t (way k i) (way l i) ⊆ bound7′ v t k l
+    pub said7″ : (i : ℕ) → (cell v t (k .p) (l .p) liesWithin E → cell v t (way k i) (way l i) liesWithin E) → cell v t (way k i) (way l i) liesWithin bound7′ v t k l
     unfolding bound7′
     said7″ i f =
         unless-in (not (within (cell v t (k .p) (l .p)) E)) (cell v t (way k i) (way l i)) E
-        (λ n. f (within-⊆ (cell v t (k .p) (l .p)) E (T-not-not (within (cell v t (k .p) (l .p)) E) (λ e. T-not (not (within (cell v t (k .p) (l .p)) E)) n e))))
+        (λ n. f (within-lies (cell v t (k .p) (l .p)) E (T-not-not (within (cell v t (k .p) (l .p)) E) (λ e. T-not (not (within (cell v t (k .p) (l .p)) E)) n e))))
 
 -- two cells within each other's converses are each other's converses
-turned : (s : Sheet) (t : List ℕ) → Table (s .boards) t → (p q : ℕ) → at s t q p ⊆ converse (at s t p q) → at s t p q ⊆ converse (at s t q p)
+turned : (s : Sheet) (t : List ℕ) → Table (s .boards) t → (p q : ℕ) → at s t q p liesWithin converse (at s t p q) → at s t p q liesWithin converse (at s t q p)
     → at s t q p ≡ converse (at s t p q)
 turned s t h p q a b =
-    ⊆-antisym (h .small (s .boards * q + p)) (converse-small (at s t p q)) a
-    (subst (λ (x : ℕ). converse (at s t p q) ⊆ x) (converse-converse (at s t q p) (h .small (s .boards * q + p))) (converse-mono b))
+    lies-antisym (h .small (s .boards * q + p)) (converse-small (at s t p q)) a
+    (subst (λ (x : ℕ). converse (at s t p q) liesWithin x) (converse-converse (at s t q p) (h .small (s .boards * q + p))) (converse-mono b))
 
 -- a table is closed exactly if each rule of the list strikes nothing
 pub closed-idle : {s : Sheet} {t : List ℕ} → Closed s t → All (Idle (s .boards) t) (rules s)
@@ -364,7 +364,7 @@ closed-idle {s} {t} c =
     all-rules (Idle (s .boards) t) s
     (record {
       r1 = c .rule1;
-      r2 = λ p q h l. ⊆-eq (c .rule2 p q h l);
+      r2 = λ p q h l. lies-eq (c .rule2 p q h l);
       r3 = c .rule3;
       r4 = c .rule4;
       r5 = c .rule5;
@@ -395,29 +395,29 @@ idle-closed s t g h =
 -- ---- bounds that grow with the table
 
 abbrev pub Grows : (List ℕ → ℕ) → Type 0
-Grows b = (u t : List ℕ) → Inside u t → b u ⊆ b t
+Grows b = (u t : List ℕ) → Inside u t → b u liesWithin b t
 
-unless-grows : (a b : Bool) (m : ℕ) → (T a → T b) → unless a m ⊆ unless b m
-unless-grows true true m h = ⊆-refl full
+unless-grows : (a b : Bool) (m : ℕ) → (T a → T b) → unless a m liesWithin unless b m
+unless-grows true true m h = lies-refl full
 unless-grows true false m h = absurd (h tt)
-unless-grows false true m h = ⊆-full m
-unless-grows false false m h = ⊆-refl m
+unless-grows false true m h = lies-full m
+unless-grows false false m h = lies-refl m
 
-pub reaches-grows : {x y : ℕ} → x ⊆ y → T (reaches x) → T (reaches y)
+pub reaches-grows : {x y : ℕ} → x liesWithin y → T (reaches x) → T (reaches y)
 unfolding reaches
 reaches-grows {x} {y} s t =
     ⊎-elim (λ a. or-T-left (has y same) (has y above) (s .member same same-small a))
     (λ a. or-T-right (has y same) (has y above) (s .member above relations-pos a)) (T-or (has x same) (has x above) t)
 
 -- having something else than what is in m
-escapes-grows : {x y : ℕ} (m : ℕ) → x ⊆ y → T (not (within x m)) → T (not (within y m))
-escapes-grows {x} {y} m s t = not-T (within y m) (λ u. T-not (within x m) t (⊆-within (⊆-trans s (within-⊆ y m u))))
+escapes-grows : {x y : ℕ} (m : ℕ) → x liesWithin y → T (not (within x m)) → T (not (within y m))
+escapes-grows {x} {y} m s t = not-T (within y m) (λ u. T-not (within x m) t (lies-within (lies-trans s (within-lies y m u))))
 
 module _ (v : ℕ) {u t : List ℕ} (i : Inside u t) where
-  inside : (p q : ℕ) → cell v u p q ⊆ cell v t p q
+  inside : (p q : ℕ) → cell v u p q liesWithin cell v t p q
   inside p q = i .each (v * p + q)
 
-  pub bound6-grows : (k : KindLine) (z : ℕ) → bound6 v u k z ⊆ bound6 v t k z
+  pub bound6-grows : (k : KindLine) (z : ℕ) → bound6 v u k z liesWithin bound6 v t k z
   unfolding bound6
   bound6-grows k z =
       unless-grows (someBelow (width k) (λ i. reaches (cell v u (way k i) z))) (someBelow (width k) (λ i. reaches (cell v t (way k i) z))) (complement A)
@@ -426,7 +426,7 @@ module _ (v : ℕ) {u t : List ℕ} (i : Inside u t) where
       more : (i : ℕ) × (i < width k) × T (reaches (cell v u (way k i) z)) → T (someBelow (width k) (λ i. reaches (cell v t (way k i) z)))
       more m = some-in (width k) (λ i. reaches (cell v t (way k i) z)) (m .0) (m .1) (reaches-grows (inside (way k (m .0)) z) (m .2))
 
-  pub bound6′-grows : (k : KindLine) (j z : ℕ) → bound6′ v u k j z ⊆ bound6′ v t k j z
+  pub bound6′-grows : (k : KindLine) (j z : ℕ) → bound6′ v u k j z liesWithin bound6′ v t k j z
   unfolding bound6′
   bound6′-grows k j z =
       unless-grows
@@ -444,7 +444,7 @@ module _ (v : ℕ) {u t : List ℕ} (i : Inside u t) where
           (and-T (not (eqb j (m .0))) (reaches (cell v t (way k (m .0)) z)) (T-and-left (not (eqb j (m .0))) (reaches (cell v u (way k (m .0)) z)) (m .2))
           (reaches-grows (inside (way k (m .0)) z) (T-and-right (not (eqb j (m .0))) (reaches (cell v u (way k (m .0)) z)) (m .2))))
 
-  pub bound7-grows : (k l : KindLine) → bound7 v u k l ⊆ bound7 v t k l
+  pub bound7-grows : (k l : KindLine) → bound7 v u k l liesWithin bound7 v t k l
   unfolding bound7
   bound7-grows k l =
       unless-grows (agree k l && eachBelow (width k) (λ i. has (cell v u (way k i) (way l i)) same))
@@ -454,7 +454,7 @@ module _ (v : ℕ) {u t : List ℕ} (i : Inside u t) where
       (λ i h. inside (way k i) (way l i) .member same same-small
       (each-at (width k) (λ i. has (cell v u (way k i) (way l i)) same) (T-and-right (agree k l) _ a) i h))))
 
-  bound7′-grows : (k l : KindLine) → bound7′ v u k l ⊆ bound7′ v t k l
+  bound7′-grows : (k l : KindLine) → bound7′ v u k l liesWithin bound7′ v t k l
   unfolding bound7′
   bound7′-grows k l =
       unless-grows (not (within (cell v u (k .p) (l .p)) E)) (not (within (cell v t (k .p) (l .p)) E)) E (escapes-grows E (inside (k .p) (l .p)))
@@ -463,12 +463,12 @@ pub rules-grow : (s : Sheet) → All (λ r. Grows (r .bound)) (rules s)
 rules-grow s =
     all-rules (λ r. Grows (r .bound)) s
     (record {
-      r1 = λ p h u t i. ⊆-refl E;
+      r1 = λ p h u t i. lies-refl E;
       r2 = λ p q h k u t i. converse-mono (i .each (s .boards * p + q));
       r3 = λ p q r h k l u t i. compose-mono (i .each (s .boards * p + q)) (i .each (s .boards * q + r));
-      r4 = λ l m u t i. ⊆-refl (l .allowed);
-      r5 = λ k m i h u t n. ⊆-refl A;
-      r5′ = λ k m i j h l d u t n. ⊆-refl S;
+      r4 = λ l m u t i. lies-refl (l .allowed);
+      r5 = λ k m i h u t n. lies-refl A;
+      r5′ = λ k m i j h l d u t n. lies-refl S;
       r6 = λ k m z h u t i. bound6-grows (s .boards) i k z;
       r6′ = λ k m z h j l u t i. bound6′-grows (s .boards) i k j z;
       r7 = λ k m l n u t i. bound7-grows (s .boards) i k l;

@@ -10,10 +10,10 @@ use native.Mathlib.Omega.{arith}
 use lib.Dec.{T, eqb, ltb, eqb→eq, eqb-refl, ltb→lt, nltb→le, T-not}
 use lib.ListN.{length, getD, set, length-set, List·getD-eq-default}
 use lib.Seq.{getD-set-same, getD-set-other, set-out}
-use Rattle.rules.specs.Relations.{sets, meet, size, _⊆_}
+use Rattle.rules.specs.Relations.{setLimit, meet, size, _liesWithin_}
 use Rattle.rules.specs.Tables.{Table, narrowed, Inside, total}
 use Rattle.rules.proofs.Tests.{T-decide}
-use Rattle.rules.proofs.Sets.{⊆-refl, zero-⊆, meet-small, meet-left, meet-right, meet-largest}
+use Rattle.rules.proofs.Sets.{lies-refl, zero-lies, meet-small, meet-left, meet-right, meet-largest}
 
 -- what holds of each cell, and of a at place k, holds of each cell after a is put there
 pub set-each : (P : ℕ → ℕ → Type 0) (t : List ℕ) (k a : ℕ) → ((j : ℕ) → P j (getD t j 0)) → P k a → (j : ℕ) → P j (getD (set t k a) j 0)
@@ -39,34 +39,34 @@ module _ (t : List ℕ) (k b : ℕ) where
   pub strike-table : {v : ℕ} → Table v t → Table v (narrowed t k b)
   strike-table h =
       let c = meet (getD t k 0) b in
-      record { cells = length-set t k c ∙ h .cells; small = set-each (λ j x. x < sets) t k c (h .small) (meet-small (getD t k 0) b) }
+      record { cells = length-set t k c ∙ h .cells; small = set-each (λ j x. x < setLimit) t k c (h .small) (meet-small (getD t k 0) b) }
 
   pub strike-inside : Inside (narrowed t k b) t
   strike-inside =
       let c = meet (getD t k 0) b in
       record {
         cells = length-set t k c;
-        each = set-each (λ j x. x ⊆ getD t j 0) t k c (λ j. ⊆-refl (getD t j 0)) (meet-left (getD t k 0) b);
+        each = set-each (λ j x. x liesWithin getD t j 0) t k c (λ j. lies-refl (getD t j 0)) (meet-left (getD t k 0) b);
       }
 
   -- it loses no table in which the cell lies within the set
-  pub strike-keeps : {w : List ℕ} → Inside w t → getD w k 0 ⊆ b → Inside w (narrowed t k b)
+  pub strike-keeps : {w : List ℕ} → Inside w t → getD w k 0 liesWithin b → Inside w (narrowed t k b)
   strike-keeps {w} i d =
       let c = meet (getD t k 0) b in
-      record { cells = i .cells ∙ sym (length-set t k c); each = set-each (λ j x. getD w j 0 ⊆ x) t k c (i .each) (meet-largest (i .each k) d) }
+      record { cells = i .cells ∙ sym (length-set t k c); each = set-each (λ j x. getD w j 0 liesWithin x) t k c (i .each) (meet-largest (i .each k) d) }
 
   -- afterwards the cell lies within the set
-  pub strike-within : getD (narrowed t k b) k 0 ⊆ b
+  pub strike-within : getD (narrowed t k b) k 0 liesWithin b
   strike-within =
       let c = meet (getD t k 0) b in
-      ⊎-elim (λ l. subst (λ (x : ℕ). x ⊆ b) (sym (getD-set-same t k c 0 (ltb→lt k (length t) l))) (meet-right (getD t k 0) b))
-      (λ n. subst (λ (u : List ℕ). getD u k 0 ⊆ b) (sym (set-out t k c (nltb→le k (length t) n)))
-      (subst (λ (x : ℕ). x ⊆ b) (sym (List·getD-eq-default t 0 (nltb→le k (length t) n))) (zero-⊆ b)))
+      ⊎-elim (λ l. subst (λ (x : ℕ). x liesWithin b) (sym (getD-set-same t k c 0 (ltb→lt k (length t) l))) (meet-right (getD t k 0) b))
+      (λ n. subst (λ (u : List ℕ). getD u k 0 liesWithin b) (sym (set-out t k c (nltb→le k (length t) n)))
+      (subst (λ (x : ℕ). x liesWithin b) (sym (List·getD-eq-default t 0 (nltb→le k (length t) n))) (zero-lies b)))
       (T-decide (ltb k (length t)))
 
   -- a strike that changes nothing strikes nothing
-  pub strike-idle : narrowed t k b ≡ t → getD t k 0 ⊆ b
-  strike-idle e = subst (λ (u : List ℕ). getD u k 0 ⊆ b) e strike-within
+  pub strike-idle : narrowed t k b ≡ t → getD t k 0 liesWithin b
+  strike-idle e = subst (λ (u : List ℕ). getD u k 0 liesWithin b) e strike-within
 
   pub strike-total : k < length t → total (narrowed t k b) + size (getD t k 0) ≡ total t + size (meet (getD t k 0) b)
   strike-total h = total-set t k (meet (getD t k 0) b) h

@@ -5,7 +5,7 @@ use mathlib.Core.Logic.{_⊎_}
 use mathlib.Core.List.{List, List·Memᴰ}
 use Prim.Native.Nat.{ℕ, _^_, _<_}
 use lib.ListN.{length, getD}
-use Rattle.rules.specs.Relations.{relations, E, A, S, _⊆_, converse, compose}
+use Rattle.rules.specs.Relations.{relations, E, A, S, _liesWithin_, converse, compose}
 use Rattle.rules.specs.Descriptions.{RelationLine, KindLine, Sheet}
 use Rattle.rules.specs.Tables.{Table, at}
 
@@ -31,9 +31,9 @@ pub record Arrangement (s : Sheet) (t : List ℕ) : Type 0 where
   pub rule2 : (p q : ℕ) → p < s .boards → q < s .boards → at s t q p ≡ converse (at s t p q)
   -- 3. (p, r) is in the composition of (p, q) with (q, r), for all p, q, r, equal ones too.
   pub rule3 : (p q r : ℕ) → p < s .boards → q < s .boards → r < s .boards
-      → at s t p r ⊆ compose (at s t p q) (at s t q r)
+      → at s t p r liesWithin compose (at s t p q) (at s t q r)
   -- 4. Each relation line's cell (p, q) is in its set.
-  pub rule4 : (l : RelationLine) → List·Memᴰ l (s .lines) → at s t (l .p) (l .q) ⊆ l .allowed
+  pub rule4 : (l : RelationLine) → List·Memᴰ l (s .lines) → at s t (l .p) (l .q) liesWithin l .allowed
   -- 5. For a kind line on p with ways y1 to yn: (p, yi) is A, and (yi, yj) is S for i different from j.
   pub rule5 : (k : KindLine) → List·Memᴰ k (s .kinds) → (i : ℕ) → i < width k → at s t (k .p) (way k i) ≡ A
   pub rule5′ : (k : KindLine) → List·Memᴰ k (s .kinds) → (i j : ℕ) → i < width k → j < width k → (i ≡ j → ⊥)

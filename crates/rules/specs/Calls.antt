@@ -5,7 +5,7 @@ use mathlib.Core.List.{List}
 use Prim.Native.Nat.{ℕ, _*_}
 use lib.Dec.{leb, ltb, eqb}
 use lib.ListN.{length, replicate}
-use Rattle.rules.specs.Relations.{eachOf, sets, full, size, within}
+use Rattle.rules.specs.Relations.{eachOf, setLimit, full, size, within}
 use Rattle.rules.specs.Descriptions.{Sheet, good, refused, read, mostBoards}
 use Rattle.rules.specs.Tables.{cell, emptied}
 use Rattle.rules.specs.Closed.{strikes}
@@ -27,7 +27,7 @@ succeed c t = record { number = 0; count = c; table = t }
 
 -- 6: the table hasn't V times V cells, or a cell is above 15
 unfoldable pub wellFormed : ℕ → List ℕ → Bool
-wellFormed v t = eqb (length t) (v * v) && eachOf (λ x. ltb x sets) t
+wellFormed v t = eqb (length t) (v * v) && eachOf (λ x. ltb x setLimit) t
 
 -- 1 to 5 and then 6 come before the rest
 abbrev pub given : List ℕ → List ℕ → (Sheet → Outcome) → Outcome

@@ -4,7 +4,7 @@ use mathlib.Core.Bool.{Bool, true, false, not, _&&_, _||_}
 use mathlib.Core.List.{List, [], _∷_, _++_, flatMap}
 use Prim.Native.Nat.{ℕ, zero, suc, _+_, _*_}
 use lib.Dec.{eqb}
-use Rattle.rules.specs.Relations.{someBelow, eachBelow, same, above, E, A, S, has, full, join, complement, _⊆_, within, converse, compose}
+use Rattle.rules.specs.Relations.{someBelow, eachBelow, same, above, E, A, S, has, full, join, complement, _liesWithin_, within, converse, compose}
 use Rattle.rules.specs.Descriptions.{RelationLine, KindLine, Sheet}
 use Rattle.rules.specs.Tables.{cell, narrowed, total, upTo}
 use Rattle.rules.specs.Arrangements.{way, width}
@@ -51,7 +51,7 @@ pub record Rule : Type 0 where
 
 -- the rule strikes nothing
 abbrev pub Idle : ℕ → List ℕ → Rule → Type 0
-Idle v t r = cell v t (r .row) (r .column) ⊆ r .bound t
+Idle v t r = cell v t (r .row) (r .column) liesWithin r .bound t
 
 -- the rule that (p, q) lie within b
 abbrev pub lies : ℕ → ℕ → (List ℕ → ℕ) → List Rule

@@ -46,27 +46,27 @@ unfoldable pub expression : List ℕ → Value
 expression ws = evaluate (length ws) ws
 
 -- An expression as a person reads it, the words that write it, and the set that it stands for: what `expression` is shown to agree with.
-pub data Tree : Type 0 where
-  same above below side : Tree
-  or and : Tree → Tree → Tree
-  not inv : Tree → Tree
+pub data Phrase : Type 0 where
+  onlyE onlyA onlyB onlyS : Phrase
+  unionOf intersectionOf : Phrase → Phrase → Phrase
+  complementOf inverseOf : Phrase → Phrase
 
-unfoldable pub written : Tree → List ℕ
-written same = 0 ∷ []
-written above = 1 ∷ []
-written below = 2 ∷ []
-written side = 3 ∷ []
-written (or a b) = 4 ∷ (written a ++ written b)
-written (and a b) = 5 ∷ (written a ++ written b)
-written (not a) = 6 ∷ written a
-written (inv a) = 7 ∷ written a
+unfoldable pub written : Phrase → List ℕ
+written onlyE = 0 ∷ []
+written onlyA = 1 ∷ []
+written onlyB = 2 ∷ []
+written onlyS = 3 ∷ []
+written (unionOf a b) = 4 ∷ (written a ++ written b)
+written (intersectionOf a b) = 5 ∷ (written a ++ written b)
+written (complementOf a) = 6 ∷ written a
+written (inverseOf a) = 7 ∷ written a
 
-unfoldable pub denoted : Tree → ℕ
-denoted same = E
-denoted above = A
-denoted below = B
-denoted side = S
-denoted (or a b) = join (denoted a) (denoted b)
-denoted (and a b) = meet (denoted a) (denoted b)
-denoted (not a) = complement (denoted a)
-denoted (inv a) = converse (denoted a)
+unfoldable pub denoted : Phrase → ℕ
+denoted onlyE = E
+denoted onlyA = A
+denoted onlyB = B
+denoted onlyS = S
+denoted (unionOf a b) = join (denoted a) (denoted b)
+denoted (intersectionOf a b) = meet (denoted a) (denoted b)
+denoted (complementOf a) = complement (denoted a)
+denoted (inverseOf a) = converse (denoted a)

@@ -49,8 +49,8 @@ abbrev pub side : ℕ
 side = 3
 
 -- Sets of relations are numbers below this one: E = 1, A = 2, B = 4, S = 8, added. So digit r says whether relation r is a member.
-abbrev pub sets : ℕ
-sets = 2 ^ relations
+abbrev pub setLimit : ℕ
+setLimit = 2 ^ relations
 
 -- the sets of one relation
 abbrev pub E : ℕ
@@ -103,8 +103,8 @@ unfoldable pub complement : ℕ → ℕ
 complement x = setOf (λ r. not (has x r))
 
 -- x lies within y: each member of x is one of y. It is true of the empty set. And the same as a test.
-infix 40 _⊆_
-pub record _⊆_ (x y : ℕ) : Type 0 where
+infix 40 _liesWithin_
+pub record _liesWithin_ (x y : ℕ) : Type 0 where
   pub member : (r : ℕ) → r < relations → T (has x r) → T (has y r)
 
 unfoldable pub within : ℕ → ℕ → Bool

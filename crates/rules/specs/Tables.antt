@@ -6,7 +6,7 @@ use mathlib.Core.List.{List, [], _∷_}
 use Prim.Native.Nat.{ℕ, zero, suc, _+_, _*_, _<_}
 use lib.Dec.{eqb}
 use lib.ListN.{length, getD, set}
-use Rattle.rules.specs.Relations.{someOf, sets, meet, _⊆_, size}
+use Rattle.rules.specs.Relations.{someOf, setLimit, meet, _liesWithin_, size}
 use Rattle.rules.specs.Descriptions.{Sheet}
 
 -- cell (p, q) of a table of v boards
@@ -20,7 +20,7 @@ at s t p q = cell (s .boards) t p q
 -- a well-formed table: it has V times V cells, each a set
 pub record Table (v : ℕ) (t : List ℕ) : Type 0 where
   pub cells : length t ≡ v * v
-  pub small : (k : ℕ) → getD t k 0 < sets
+  pub small : (k : ℕ) → getD t k 0 < setLimit
 
 -- the table t with its cell k narrowed to what the set b has too
 abbrev pub narrowed : List ℕ → ℕ → ℕ → List ℕ
@@ -29,7 +29,7 @@ narrowed t k b = let c = meet (getD t k 0) b in set t k c
 -- the table u is inside the table t: each cell of u lies within t's
 pub record Inside (u t : List ℕ) : Type 0 where
   pub cells : length u ≡ length t
-  pub each : (k : ℕ) → getD u k 0 ⊆ getD t k 0
+  pub each : (k : ℕ) → getD u k 0 liesWithin getD t k 0
 
 -- some cell is empty
 unfoldable pub emptied : List ℕ → Bool

@@ -6,7 +6,7 @@ use native.Mathlib.Omega.{arith}
 use lib.Dec.{T}
 use lib.Pow.{pow-pos}
 use lib.ListN.{length, getD, replicate, length-replicate}
-use Rattle.rules.specs.Relations.{relations, sets}
+use Rattle.rules.specs.Relations.{relations, setLimit}
 use Rattle.rules.specs.Descriptions.{mostBoards, Sheet, good, refused, read}
 use Rattle.rules.specs.Tables.{Table, emptied}
 use Rattle.rules.specs.Closed.{Largest}
@@ -104,5 +104,5 @@ pub room-bytes : {v : ℕ} {r : List ℕ} → v ≤ mostBoards → r ≡ replica
 room-bytes {v} {r} h e =
     record {
       room = omega (arith, pairs-most v h, ap length e ∙ length-replicate {A = ℕ} mostPairs 0);
-      small = λ m. subst (λ (x : ℕ). x < sets) (sym (ap (λ (l : List ℕ). getD l m 0) e ∙ zeros mostPairs m)) (pow-pos relations);
+      small = λ m. subst (λ (x : ℕ). x < setLimit) (sym (ap (λ (l : List ℕ). getD l m 0) e ∙ zeros mostPairs m)) (pow-pos relations);
     }

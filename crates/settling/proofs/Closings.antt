@@ -7,14 +7,14 @@ use Prim.Native.Nat.{ℕ, _+_, _*_, _-_}
 use native.Mathlib.Nat.{zero-add}
 use native.Mathlib.Omega.{arith}
 use lib.Dec.{T, eqb}
-use Rattle.rules.specs.Relations.{A, S, _⊆_}
+use Rattle.rules.specs.Relations.{A, S, _liesWithin_}
 use Rattle.rules.specs.Descriptions.{Sheet}
 use Rattle.rules.specs.Tables.{Table, Inside, at, emptied, total, upTo}
 use Rattle.rules.specs.Arrangements.{way}
 use Rattle.rules.specs.Closed.{Closed}
 use Rattle.rules.specs.Closing.{Rule, Idle, lies, rules1, rules2, rules4, rules5, rules6, rules7, rules, closing}
 use Rattle.rules.specs.Calls.{close}
-use Rattle.rules.proofs.Sets.{⊆-trans}
+use Rattle.rules.proofs.Sets.{lies-trans}
 use Rattle.rules.proofs.Members.{All, all-one, all-over, all-append, append-left, append-right}
 use Rattle.rules.proofs.Inside.{inside-trans}
 use Rattle.rules.proofs.Rules.{all-only, all-ways, parts-rules, rules-parts, closed-idle, idle-closed}
@@ -74,8 +74,8 @@ all-staying s =
 -- what holds of a closed table by a bound that stays holds of every table inside it
 pub steady-inside : (s : Sheet) {t u : List ℕ} → Closed s u → Inside t u → (x : List ℕ) → Inside x t → Idles (s .boards) (staying s) x
 steady-inside s {t} {u} k i x j r m =
-    ⊆-trans (inside-trans j i .each (s .boards * r .row + r .column))
-    (subst (λ (b : ℕ). at s u (r .row) (r .column) ⊆ b) (all-staying s r m u x) (staying-part (Idle (s .boards) u) s (closed-idle k) r m))
+    lies-trans (inside-trans j i .each (s .boards * r .row + r .column))
+    (subst (λ (b : ℕ). at s u (r .row) (r .column) liesWithin b) (all-staying s r m u x) (staying-part (Idle (s .boards) u) s (closed-idle k) r m))
 
 -- ---- the largest closed table
 

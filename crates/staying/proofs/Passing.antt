@@ -7,7 +7,7 @@ use native.Mathlib.Nat.{zero-add}
 use native.Mathlib.Omega.{arith}
 use lib.ListN.{length, getD, take, drop, length-drop}
 use lib.Seq.{drop-drop}
-use Rattle.rules.specs.Relations.{sets}
+use Rattle.rules.specs.Relations.{setLimit}
 use Rattle.rules.specs.Expressions.{Value, value, malformed, expression}
 use Rattle.rules.specs.Descriptions.{RelationLine, KindLine, Reading, good, refused, Front, meaning, relationLine, kindLine, section}
 use Rattle.rules.specs.Tables.{Table}
@@ -179,7 +179,7 @@ ruling l = record { p = l .p; q = l .q; allowed = l .allowed }
 pub record Ruled (v : ℕ) (l : RelationLine) : Type 0 where
   pub p-board : l .p < v
   pub q-board : l .q < v
-  pub small : l .allowed < sets
+  pub small : l .allowed < setLimit
 
 -- the relation line that code reads there, with so many words after it, after the lines done
 pub record RelationMet (v count : ℕ) (ws : List ℕ) (left : ℕ) (done : List RelationLine) (l : RelationLine) (after : ℕ) : Type 0 where
@@ -188,11 +188,11 @@ pub record RelationMet (v count : ℕ) (ws : List ℕ) (left : ℕ) (done : List
   pub beyond : Beyond (relationLine v) count ws done l (length ws - after) (left - 1)
 
 -- an expression that means something means a set
-means-set : (us : List ℕ) (x : ℕ) → meaning (expression us) ≡ good x → x < sets
+means-set : (us : List ℕ) (x : ℕ) → meaning (expression us) ≡ good x → x < setLimit
 means-set us x m = go (expression us) refl m
   where
-    go : (e : Value) → expression us ≡ e → meaning e ≡ good x → x < sets
-    go (value y []) p q = let s : y < sets = expression-ends us y [] p .small in subst (λ (n : ℕ). n < sets) (cc) s
+    go : (e : Value) → expression us ≡ e → meaning e ≡ good x → x < setLimit
+    go (value y []) p q = let s : y < setLimit = expression-ends us y [] p .small in subst (λ (n : ℕ). n < setLimit) (cc) s
     go (value y (w ∷ ws)) p q = never 5 x q
     go malformed p q = never 5 x q
 

@@ -6,7 +6,7 @@ use Prim.Native.Nat.{ℕ, _+_, _*_, _≤_, _<_}
 use native.Mathlib.Omega.{arith}
 use lib.Dec.{eqb}
 use lib.ListN.{length, getD}
-use Rattle.rules.specs.Relations.{relations, sets, A, S, setTo, setOf, full}
+use Rattle.rules.specs.Relations.{relations, setLimit, A, S, setTo, setOf, full}
 use Rattle.rules.specs.Descriptions.{KindLine}
 use Rattle.rules.specs.Tables.{cell, Table, upTo}
 use Rattle.rules.specs.Closing.{unless, Rule, Idle, lies, only, waysOf, rule5}
@@ -18,11 +18,11 @@ use Rattle.kinds.specs.Panels.{panel}
 use Rattle.staying.specs.Ways.{apart}
 
 -- what two places allow is a set
-pub apart-small : (i j : ℕ) → apart i j < sets
+pub apart-small : (i j : ℕ) → apart i j < setLimit
 unfolding relations setTo setOf full
 apart-small i j = go (eqb i j)
   where
-    go : (b : Bool) → unless b S < sets
+    go : (b : Bool) → unless b S < setLimit
     go true = omega arith
     go false = omega arith
 

@@ -2,7 +2,7 @@
 ghost use mathlib.Core.Path.{_≡_};
 ghost use Prim.Native.Nat.{_<_};
 ghost use lib.ListN.{length, getD, replicate};
-ghost use Rattle.rules.specs.Relations.{sets};
+ghost use Rattle.rules.specs.Relations.{setLimit};
 ghost use Rattle.rules.specs.Calls.{fresh};
 ghost use Rattle.passes.specs.Passes.{Narrowed};
 ghost use Rattle.answers.specs.Answers.{outcome};
@@ -26,7 +26,7 @@ fn fill(table: &mut [u8], set: u8)
 
 // Narrows one cell to what the bound has too, and says how many relations that struck.
 pub fn narrow(cells: &mut [u8], k: usize, bound: u8) -> u32
-    requires { ⌜ (k < length (now cells)) × (getD (now cells) k 0 < sets) × (bound < sets) ⌝ }
+    requires { ⌜ (k < length (now cells)) × (getD (now cells) k 0 < setLimit) × (bound < setLimit) ⌝ }
     ensures { λ n. ⌜ Narrowed (now (cells .entry)) k bound (now (cells .exit)) n ⌝ }
 {
     let was = cells[k];

@@ -6,12 +6,12 @@ use mathlib.Core.List.{List, [], List·Memᴰ, List·Memᴰ·not-nil}
 use Prim.Native.Nat.{ℕ, _^_, _<_}
 use lib.Dec.{T}
 use lib.ListN.{length, getD, length-map}
-use Rattle.rules.specs.Relations.{relations, same, above, side, E, A, S, has, _⊆_, converse, composed, compose}
+use Rattle.rules.specs.Relations.{relations, same, above, side, E, A, S, has, _liesWithin_, converse, composed, compose}
 use Rattle.rules.specs.Descriptions.{RelationLine, KindLine, Sheet, WellFormed}
 use Rattle.rules.specs.Tables.{cell, at}
 use Rattle.rules.specs.Arrangements.{way, width, Alike, Arrangement}
 use Rattle.rules.proofs.Digits.{has-single, single-has}
-use Rattle.rules.proofs.Sets.{single-small, single-⊆}
+use Rattle.rules.proofs.Sets.{single-small, single-lies}
 use Rattle.rules.proofs.Composition.{converse-single, compose-single}
 use Rattle.rules.proofs.Members.{at-member, at-map}
 use Rattle.rules.proofs.Arrangements.{One, panel, fed}
@@ -79,18 +79,18 @@ module _ {v : ℕ} {d : Placement v} {t : List ℕ} (w : Draws d t) where
       drawn-cell w k h ∙ ap (λ (r : ℕ). 2 ^ r) (standing-turned (d .place p) (d .place q))
       ∙ sym (converse-single (placed-standing d p q) (standing-small (d .place p) (d .place q))) ∙ ap converse (sym (drawn-cell w h k))
 
-  drawn3 : (p q r : ℕ) → p < v → q < v → r < v → cell v t p r ⊆ compose (cell v t p q) (cell v t q r)
-  drawn3 p q r hp hq hr = subst (λ (x : ℕ). x ⊆ compose (cell v t p q) (cell v t q r)) (sym (drawn-cell w hp hr)) within
+  drawn3 : (p q r : ℕ) → p < v → q < v → r < v → cell v t p r liesWithin compose (cell v t p q) (cell v t q r)
+  drawn3 p q r hp hq hr = subst (λ (x : ℕ). x liesWithin compose (cell v t p q) (cell v t q r)) (sym (drawn-cell w hp hr)) within
     where
       allowed : composed (placed-standing d p q) (placed-standing d q r) ≡ compose (cell v t p q) (cell v t q r)
       allowed =
           sym (compose-single (placed-standing d p q) (placed-standing d q r) (standing-small (d .place p) (d .place q))
           (standing-small (d .place q) (d .place r))) ∙ ap₂ compose (sym (drawn-cell w hp hq)) (sym (drawn-cell w hq hr))
 
-      within : 2 ^ placed-standing d p r ⊆ compose (cell v t p q) (cell v t q r)
+      within : 2 ^ placed-standing d p r liesWithin compose (cell v t p q) (cell v t q r)
       within =
-          subst (λ (x : ℕ). 2 ^ placed-standing d p r ⊆ x) allowed
-          (single-⊆ (placed-standing d p r) (composed (placed-standing d p q) (placed-standing d q r))
+          subst (λ (x : ℕ). 2 ^ placed-standing d p r liesWithin x) allowed
+          (single-lies (placed-standing d p r) (composed (placed-standing d p q) (placed-standing d q r))
           (standing-composed (d .place p) (d .place q) (d .place r)))
 
 -- every placement draws an arrangement of the description that says nothing
@@ -159,11 +159,11 @@ one-place {d = d} a b e =
 -- ---- rules 4 to 7
 
 module _ {s : Sheet} (f : WellFormed s) (d : Placement (s .boards)) (g : Fits s d) {t : List ℕ} (w : Draws d t) where
-  drawn4 : (l : RelationLine) → List·Memᴰ l (s .lines) → at s t (l .p) (l .q) ⊆ l .allowed
+  drawn4 : (l : RelationLine) → List·Memᴰ l (s .lines) → at s t (l .p) (l .q) liesWithin l .allowed
   drawn4 l m =
       let b = f .lines .1 l m in
       let h = g .lines l m in
-      subst (λ (x : ℕ). x ⊆ l .allowed) (sym (stands-drawn w (b .0) (b .1) (h .0) (h .3))) (single-⊆ (h .0) (l .allowed) (h .2))
+      subst (λ (x : ℕ). x liesWithin l .allowed) (sym (stands-drawn w (b .0) (b .1) (h .0) (h .3))) (single-lies (h .0) (l .allowed) (h .2))
 
   module _ (k : KindLine) (m : List·Memᴰ k (s .kinds)) where
     held : Panel d k

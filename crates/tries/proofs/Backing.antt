@@ -7,7 +7,7 @@ use native.Mathlib.Nat.{eq-or-lt-of-le}
 use native.Mathlib.Omega.{arith}
 use lib.ListN.{length, getD, set, length-set}
 use lib.Seq.{getD-set-same, getD-set-other}
-use Rattle.rules.specs.Relations.{sets}
+use Rattle.rules.specs.Relations.{setLimit}
 use Rattle.rules.specs.Search.{Order}
 use Rattle.tries.specs.declared.places.Place.{Place}
 use Rattle.tries.specs.Pairs.{Pair}
@@ -55,7 +55,7 @@ module _ {v : ℕ} {ord cs : List ℕ} {i : ℕ} {ds : List ℕ} {at : Place} (b
     pub back-bytes : Bytes v (set ds (at .index) left)
     back-bytes =
         bytes-set (at .index) left (b .bytes)
-        (subst (λ (x : ℕ). x < sets) (sym is) (less-small order (getD ds (at .index) 0) (b .bytes .small (at .index))))
+        (subst (λ (x : ℕ). x < setLimit) (sym is) (less-small order (getD ds (at .index) 0) (b .bytes .small (at .index))))
 
     left-here : getD (set ds (at .index) left) (at .index) 0 ≡ left
     left-here = getD-set-same ds (at .index) left 0 backing-room

@@ -11,11 +11,11 @@ use lib.Dec.{T, eqb, ltb, ltb→lt, T-not}
 use lib.Pow.{pow-pos}
 use lib.ListN.{length, getD, drop, drop-of-length-le}
 use lib.Seq.{drop-cons}
-use Rattle.rules.specs.Relations.{eachOf, relations, sets, has, meet, complement}
+use Rattle.rules.specs.Relations.{eachOf, relations, setLimit, has, meet, complement}
 use Rattle.rules.specs.Search.{distinct, Order}
 use Rattle.rules.proofs.Tests.{clash, T-true, T-false, true-T, T-ext, T-and-left, T-and-right, T-differ}
 use Rattle.rules.proofs.Digits.{has-zero, has-single, single-has, has-small}
-use Rattle.rules.proofs.Sets.{setOf-small, meet-small, meet-left, meet-right, meet-largest, ⊆-single, single-⊆, single-small, some-member, complement-in, complement-out, unshared-lacks, shared-has}
+use Rattle.rules.proofs.Sets.{setOf-small, meet-small, meet-left, meet-right, meet-largest, lies-single, single-lies, single-small, some-member, complement-in, complement-out, unshared-lacks, shared-has}
 use Rattle.rules.proofs.Members.{All, each-of-out, member-at}
 use Rattle.tries.specs.Choices.{still, pick, less}
 
@@ -104,7 +104,7 @@ module _ (c d r : ℕ) (other : (x : ℕ) → (x ≡ r → ⊥) → has d x ≡ 
       ∙ still-rest gone xs (T-and-right (eachOf (λ y. not (eqb x y)) xs) (distinct xs) u) rs f)
 
 -- the set c without the relation r
-module _ (c r : ℕ) (small : c < sets) (h : r < relations) where
+module _ (c r : ℕ) (small : c < setLimit) (h : r < relations) where
   without : ℕ
   without = meet c (complement (2 ^ r))
 
@@ -124,13 +124,13 @@ module _ (c r : ℕ) (small : c < sets) (h : r < relations) where
       up : T (has c x) → T (has (meet c (complement (2 ^ r))) x)
       up t =
           let l : x < relations = has-small relations c x small t in
-          ⊆-single l (meet-largest (single-⊆ x c t) (single-⊆ x (complement (2 ^ r)) (complement-in (2 ^ r) x l (λ a. n (single-has r x a)))))
+          lies-single l (meet-largest (single-lies x c t) (single-lies x (complement (2 ^ r)) (complement-in (2 ^ r) x l (λ a. n (single-has r x a)))))
 
   without-rest : (ord : List ℕ) → T (distinct ord) → (rs : List ℕ) → still ord c ≡ r ∷ rs → still ord (meet c (complement (2 ^ r))) ≡ rs
   unfolding without
   without-rest = still-rest c without r without-other without-gone
 
-pub still-less : (ord : List ℕ) → T (distinct ord) → (c r : ℕ) (rs : List ℕ) → c < sets → r < relations → still ord c ≡ r ∷ rs
+pub still-less : (ord : List ℕ) → T (distinct ord) → (c r : ℕ) (rs : List ℕ) → c < setLimit → r < relations → still ord c ≡ r ∷ rs
     → still ord (less ord c) ≡ rs
 still-less ord u c r rs small h e =
     ap (λ (n : ℕ). still ord (meet c (complement n))) (pick-still ord c r rs e) ∙ without-rest c r small h ord u rs e
@@ -149,7 +149,7 @@ member-still (x ∷ xs) c r m t =
     subst (λ (l : List ℕ). List·Memᴰ r l) (sym (still-out x xs c e))
     (⊎-elim (λ (d : r ≡ x). absurd (subst T (ap (has c) d ∙ e) t)) (λ n. member-still xs c r n t) (List·Memᴰ·cases-cons m)))
 
-pub still-none : {ord : List ℕ} → Order ord → (c : ℕ) → c < sets → still ord c ≡ [] → c ≡ 0
+pub still-none : {ord : List ℕ} → Order ord → (c : ℕ) → c < setLimit → still ord c ≡ [] → c ≡ 0
 still-none {ord} o zero h e = refl
 still-none {ord} o (suc n) h e =
     let m = some-member {x = suc n} h (λ z. let y : ⊥ = omega arith in absurd y) in
@@ -165,22 +165,22 @@ none-still (x ∷ xs) = still-out x xs 0 (has-zero x) ∙ none-still xs
 pub order-small : {ord : List ℕ} → Order ord → (i : ℕ) → i < length ord → getD ord i 0 < relations
 order-small {ord} o i h = ltb→lt (getD ord i 0) relations (each-of-out (λ r. ltb r relations) ord (o .only) (getD ord i 0) (member-at ord i h))
 
-one-small : (ord : List ℕ) (c : ℕ) → All (λ r. r < relations) ord → pick ord c < sets
+one-small : (ord : List ℕ) (c : ℕ) → All (λ r. r < relations) ord → pick ord c < setLimit
 unfolding pick
 one-small [] c h = pow-pos relations
 one-small (x ∷ xs) c h =
     either (has c x)
-    (λ e. subst (λ (n : ℕ). n < sets) (sym (pick-in x xs c e)) (single-small (h x (List·Memᴰ·head refl))))
-    (λ e. subst (λ (n : ℕ). n < sets) (sym (pick-out x xs c e)) (one-small xs c (λ y m. h y (List·Memᴰ·tail m))))
+    (λ e. subst (λ (n : ℕ). n < setLimit) (sym (pick-in x xs c e)) (single-small (h x (List·Memᴰ·head refl))))
+    (λ e. subst (λ (n : ℕ). n < setLimit) (sym (pick-out x xs c e)) (one-small xs c (λ y m. h y (List·Memᴰ·tail m))))
 
-pub pick-small : {ord : List ℕ} → Order ord → (c : ℕ) → c < sets → pick ord c < sets
+pub pick-small : {ord : List ℕ} → Order ord → (c : ℕ) → c < setLimit → pick ord c < setLimit
 pick-small {ord} o c h = one-small ord c (λ r m. ltb→lt r relations (each-of-out (λ r. ltb r relations) ord (o .only) r m))
 
-pub complement-small : (x : ℕ) → complement x < sets
+pub complement-small : (x : ℕ) → complement x < setLimit
 unfolding complement
 complement-small x = setOf-small (λ r. not (has x r))
 
-pub less-small : {ord : List ℕ} → Order ord → (c : ℕ) → c < sets → less ord c < sets
+pub less-small : {ord : List ℕ} → Order ord → (c : ℕ) → c < setLimit → less ord c < setLimit
 less-small {ord} o c h = meet-small c (complement (pick ord c))
 
 -- ---- a walk along the order: what is picked is picked from the place i on

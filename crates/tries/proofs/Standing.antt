@@ -6,14 +6,14 @@ use Prim.Native.Nat.{ℕ, zero, suc, _^_, _≤_, _<_}
 use native.Mathlib.Omega.{arith}
 use lib.Dec.{T}
 use lib.ListN.{length, getD, set, length-set}
-use Rattle.rules.specs.Relations.{relations, sets, has, _⊆_}
+use Rattle.rules.specs.Relations.{relations, setLimit, has, _liesWithin_}
 use Rattle.rules.specs.Descriptions.{Sheet}
 use Rattle.rules.specs.Tables.{Table, Inside}
 use Rattle.rules.specs.Closed.{Closed, Largest}
 use Rattle.rules.specs.Closing.{closing}
 use Rattle.rules.specs.Search.{Order, places}
 use Rattle.rules.proofs.Digits.{has-small}
-use Rattle.rules.proofs.Sets.{⊆-refl}
+use Rattle.rules.proofs.Sets.{lies-refl}
 use Rattle.rules.proofs.Inside.{inside-refl, inside-trans}
 use Rattle.rules.proofs.Strikes.{set-each}
 use Rattle.rules.proofs.Narrowing.{narrowed-table, narrowed-inside, narrowed-at}
@@ -26,13 +26,13 @@ use Rattle.tries.proofs.Walking.{place-cell}
 
 -- ---- a cell narrowed in a table and in its largest closed table
 
-pub inside-set : {x t : List ℕ} (k y : ℕ) → Inside x t → getD x k 0 ⊆ y → Inside x (set t k y)
+pub inside-set : {x t : List ℕ} (k y : ℕ) → Inside x t → getD x k 0 liesWithin y → Inside x (set t k y)
 inside-set {x} {t} k y i d =
-    record { cells = i .cells ∙ sym (length-set t k y); each = set-each (λ j z. getD x j 0 ⊆ z) t k y (i .each) d }
+    record { cells = i .cells ∙ sym (length-set t k y); each = set-each (λ j z. getD x j 0 liesWithin z) t k y (i .each) d }
 
-pub set-inside : (t : List ℕ) (k y : ℕ) → y ⊆ getD t k 0 → Inside (set t k y) t
+pub set-inside : (t : List ℕ) (k y : ℕ) → y liesWithin getD t k 0 → Inside (set t k y) t
 set-inside t k y d =
-    record { cells = length-set t k y; each = set-each (λ j z. z ⊆ getD t j 0) t k y (λ j. ⊆-refl (getD t j 0)) d }
+    record { cells = length-set t k y; each = set-each (λ j z. z liesWithin getD t j 0) t k y (λ j. lies-refl (getD t j 0)) d }
 
 -- both have the same largest closed table
 pub largest-narrowed : {s : Sheet} {u t w : List ℕ} (k r : ℕ) → Table (s .boards) u → k < length u → Largest s u t → T (has (getD t k 0) r)
@@ -56,7 +56,7 @@ largest-self {s} {t} h c = record { table = h; closed = c; inside = inside-refl 
 -- ---- the choice at a pair
 
 -- an order finds a relation in a set that is not empty
-pub chosen : {ord : List ℕ} → Order ord → (c : ℕ) → c < sets → (c ≡ 0 → ⊥) → (r : ℕ) × (rs : List ℕ) × (still ord c ≡ r ∷ rs)
+pub chosen : {ord : List ℕ} → Order ord → (c : ℕ) → c < setLimit → (c ≡ 0 → ⊥) → (r : ℕ) × (rs : List ℕ) × (still ord c ≡ r ∷ rs)
 chosen {ord} order c h f = from (still ord c) refl
   where
     from : (l : List ℕ) → still ord c ≡ l → (r : ℕ) × (rs : List ℕ) × (still ord c ≡ r ∷ rs)
@@ -72,7 +72,7 @@ pub record Choice (ord t : List ℕ) (k c : ℕ) : Type 0 where
   pub picks : pick ord c ≡ 2 ^ r
   pub member : T (has (getD t k 0) r)
 
-pub choice : {ord : List ℕ} → Order ord → {v : ℕ} {t : List ℕ} (k c : ℕ) → Table v t → (c ≡ 0 → ⊥) → c < sets → c ⊆ getD t k 0 → Choice ord t k c
+pub choice : {ord : List ℕ} → Order ord → {v : ℕ} {t : List ℕ} (k c : ℕ) → Table v t → (c ≡ 0 → ⊥) → c < setLimit → c liesWithin getD t k 0 → Choice ord t k c
 choice {ord} order k c h f l i =
     let d = chosen order c l f in
     let m : T (has c (d .0)) = still-has ord c (d .0) (d .1) (d .2) in
@@ -86,7 +86,7 @@ choice-in {k = k} a d =
 
 -- ---- the tables at the pairs
 
-module _ (s : Sheet) {ord : List ℕ} (order : Order ord) (first cs : List ℕ) (small : (m : ℕ) → getD cs m 0 < sets) where
+module _ (s : Sheet) {ord : List ℕ} (order : Order ord) (first cs : List ℕ) (small : (m : ℕ) → getD cs m 0 < setLimit) where
   abbrev pub at-pair : ℕ → List ℕ
   at-pair m = stood (closing s) ord (s .boards) first cs m
 
@@ -94,7 +94,7 @@ module _ (s : Sheet) {ord : List ℕ} (order : Order ord) (first cs : List ℕ) 
   abbrev pub narrowed-to : ℕ → List ℕ → List ℕ
   narrowed-to m t = set t (place (s .boards) m) (pick ord (getD cs m 0))
 
-  pub choice-at : (m : ℕ) → Table (s .boards) (at-pair m) → (getD cs m 0 ≡ 0 → ⊥) → getD cs m 0 ⊆ getD (at-pair m) (place (s .boards) m) 0
+  pub choice-at : (m : ℕ) → Table (s .boards) (at-pair m) → (getD cs m 0 ≡ 0 → ⊥) → getD cs m 0 liesWithin getD (at-pair m) (place (s .boards) m) 0
       → Choice ord (at-pair m) (place (s .boards) m) (getD cs m 0)
   choice-at m h f i = choice order (place (s .boards) m) (getD cs m 0) h f (small m) i
 

@@ -7,7 +7,7 @@ use native.Mathlib.Nat.{eq-or-lt-of-le}
 use native.Mathlib.Omega.{arith}
 use lib.ListN.{length, getD, set, length-set}
 use lib.Seq.{getD-set-same, getD-set-other}
-use Rattle.rules.specs.Relations.{sets, size}
+use Rattle.rules.specs.Relations.{setLimit, size}
 use Rattle.rules.specs.Search.{places}
 use Rattle.rules.proofs.Strikes.{set-each}
 use Rattle.passes.specs.Passes.{Ready}
@@ -17,11 +17,11 @@ use Rattle.tries.specs.Choices.{Bytes, Passed, Several}
 use Rattle.tries.proofs.Walking.{pair-place, pair-within, pair-end}
 
 -- a set may be put at any byte
-pub bytes-set : {v : ℕ} {cs : List ℕ} (m x : ℕ) → Bytes v cs → x < sets → Bytes v (set cs m x)
+pub bytes-set : {v : ℕ} {cs : List ℕ} (m x : ℕ) → Bytes v cs → x < setLimit → Bytes v (set cs m x)
 bytes-set {cs = cs} m x b h =
     record {
       room = omega (arith, length-set cs m x);
-      small = set-each (λ j y. y < sets) cs m x (b .small) h;
+      small = set-each (λ j y. y < setLimit) cs m x (b .small) h;
     }
 
 -- The walk went on from the pair i to this one.

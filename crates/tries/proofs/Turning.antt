@@ -9,14 +9,14 @@ use native.Mathlib.Omega.{arith}
 use lib.Dec.{T, T-not}
 use lib.ListN.{length, getD, set, drop}
 use lib.Seq.{drop-cons}
-use Rattle.rules.specs.Relations.{relations, sets, has, meet, complement, size, _⊆_}
+use Rattle.rules.specs.Relations.{relations, setLimit, has, meet, complement, size, _liesWithin_}
 use Rattle.rules.specs.Descriptions.{Sheet}
 use Rattle.rules.specs.Tables.{Table, Inside, emptied}
 use Rattle.rules.specs.Closed.{Closed, Largest}
 use Rattle.rules.specs.Closing.{closing}
 use Rattle.rules.specs.Search.{Order, End, found, later, proceed, attempt, choose, places, tries}
 use Rattle.rules.proofs.Tests.{below-suc}
-use Rattle.rules.proofs.Sets.{⊆-eq, ⊆-trans, ⊆-zero, meet-small, meet-left, meet-right, complement-out, size-one, size-pos, size-zero, some-member}
+use Rattle.rules.proofs.Sets.{lies-eq, lies-trans, lies-zero, meet-small, meet-left, meet-right, complement-out, size-one, size-pos, size-zero, some-member}
 use Rattle.rules.proofs.Inside.{inside-refl, inside-trans, emptied-in}
 use Rattle.rules.proofs.Arrangements.{One, one-has}
 use Rattle.rules.proofs.Largest.{closing-largest, largest-unique}
@@ -54,8 +54,8 @@ module _ {s : Sheet} {ord first : List ℕ} where
             record {
               some = λ e. k .each m l .some (sym (h m l) ∙ e);
               among =
-                  subst (λ (c : ℕ). c ⊆ getD (stood (closing s) ord (s .boards) first ds m) (place (s .boards) m) 0) (sym (h m l))
-                  (subst (λ (x : List ℕ). getD cs m 0 ⊆ getD x (place (s .boards) m) 0) (sym t) (k .each m l .among));
+                  subst (λ (c : ℕ). c liesWithin getD (stood (closing s) ord (s .boards) first ds m) (place (s .boards) m) 0) (sym (h m l))
+                  (subst (λ (x : List ℕ). getD cs m 0 liesWithin getD x (place (s .boards) m) 0) (sym t) (k .each m l .among));
               filled = subst Filled (sym u) (k .each m l .filled);
             };
       }
@@ -75,7 +75,7 @@ le-below h = omega arith
 
 -- nothing is left of a single relation besides itself
 none-besides : (x : ℕ) → meet x (complement x) ≡ 0
-none-besides x = ⊆-zero (meet-small x (complement x)) (record { member = λ r h m. absurd (complement-out x r h (meet-right x (complement x) .member r h m) (meet-left x (complement x) .member r h m)) })
+none-besides x = lies-zero (meet-small x (complement x)) (record { member = λ r h m. absurd (complement-out x r h (meet-right x (complement x) .member r h m) (meet-left x (complement x) .member r h m)) })
 
 module _ (s : Sheet) {ord : List ℕ} (order : Order ord) (first : List ℕ) where
   abbrev clo : List ℕ → List ℕ
@@ -96,14 +96,14 @@ module _ (s : Sheet) {ord : List ℕ} (order : Order ord) (first : List ℕ) whe
   some-cell {t} w m l e =
       T-not (emptied t) (w .filled) (emptied-in t (place v m) (subst (λ (n : ℕ). place v m < n) (sym (w .table .cells)) (place-cell v m l)) e)
 
-  module _ {t : List ℕ} (w : Whole s t) (ds : List ℕ) (m : ℕ) (l : m < length (places v)) (small : (m : ℕ) → getD ds m 0 < sets)
+  module _ {t : List ℕ} (w : Whole s t) (ds : List ℕ) (m : ℕ) (l : m < length (places v)) (small : (m : ℕ) → getD ds m 0 < setLimit)
       (here : stand ds m ≡ t) (one : size (getD t (place v m) 0) ≤ 1) (kept : getD ds m 0 ≡ getD t (place v m) 0)
     where
       some : getD ds m 0 ≡ 0 → ⊥
       some e = some-cell w m l (sym kept ∙ e)
 
-      among : getD ds m 0 ⊆ getD (stand ds m) (place v m) 0
-      among = ⊆-eq (kept ∙ ap (λ (x : List ℕ). getD x (place v m) 0) (sym here))
+      among : getD ds m 0 liesWithin getD (stand ds m) (place v m) 0
+      among = lies-eq (kept ∙ ap (λ (x : List ℕ). getD x (place v m) 0) (sym here))
 
       settled : Choice ord (stand ds m) (place v m) (getD ds m 0)
       settled = choice-at s order first ds small m (subst (Table v) (sym here) (w .table)) some among
@@ -133,8 +133,8 @@ module _ (s : Sheet) {ord : List ℕ} (order : Order ord) (first : List ℕ) whe
               record {
                 table = w .table;
                 closed = w .closed;
-                inside = inside-set (place v m) x (inside-refl t) (⊆-eq (sym e));
-                largest = λ y g c i. inside-trans i (set-inside t (place v m) x (⊆-eq e));
+                inside = inside-set (place v m) x (inside-refl t) (lies-eq (sym e));
+                largest = λ y g c i. inside-trans i (set-inside t (place v m) x (lies-eq e));
               }
 
       settled-chosen : Chosen clo ord v first ds m
@@ -211,7 +211,7 @@ module _ (s : Sheet) {ord : List ℕ} (order : Order ord) (first : List ℕ) whe
             within = several .within;
             stands = r .stands;
             some = λ e. let z : size (getD t k 0) ≡ 0 = ap size (sym (several .kept) ∙ e) ∙ size-zero in let m : 1 < size (getD t k 0) = several .many in let y : ⊥ = omega arith in y;
-            among = ⊆-eq (several .kept ∙ ap (λ (x : List ℕ). getD x k 0) (sym (r .table)));
+            among = lies-eq (several .kept ∙ ap (λ (x : List ℕ). getD x k 0) (sym (r .table)));
             table = w .table;
             inside = subst (λ (x : List ℕ). Inside x first) (r .table) (inside-at s order first ds (passed .bytes .small) (omega arith) (r .stands) (at .index) (omega arith));
             closes = subst (Largest s t) (sym (r .table)) (largest-self (w .table) (w .closed));
@@ -242,7 +242,7 @@ module _ (s : Sheet) {ord : List ℕ} (order : Order ord) (first : List ℕ) whe
   -- ---- a try
 
   module _ (cs u : List ℕ) (at : Place) (try : Due s ord first cs u at) where
-    small : (m : ℕ) → getD cs m 0 < sets
+    small : (m : ℕ) → getD cs m 0 < setLimit
     small = try .bytes .small
 
     abbrev i : ℕ
@@ -355,8 +355,8 @@ module _ (s : Sheet) {ord : List ℕ} (order : Order ord) (first : List ℕ) whe
                   stands = stands;
                   some = b .some;
                   among =
-                      subst (λ (x : List ℕ). getD ds j 0 ⊆ getD x (place v j) 0) (sym here)
-                      (subst (λ (c : ℕ). c ⊆ getD (stand cs j) (place v j) 0) (sym (b .here)) (⊆-trans (meet-left (getD cs j 0) (complement (pick ord (getD cs j 0)))) (among-at j (b .most))));
+                      subst (λ (x : List ℕ). getD ds j 0 liesWithin getD x (place v j) 0) (sym here)
+                      (subst (λ (c : ℕ). c liesWithin getD (stand cs j) (place v j) 0) (sym (b .here)) (lies-trans (meet-left (getD cs j 0) (complement (pick ord (getD cs j 0)))) (among-at j (b .most))));
                   table = subst (Table v) (sym e) (re .0);
                   inside = subst (λ (x : List ℕ). Inside x first) (sym e) (rebuilt-inside s order first ds (b .bytes .small) l stands j (omega arith));
                   closes = subst (λ (x : List ℕ). Largest s x (stand ds j)) (sym e) (re .1);
@@ -368,9 +368,9 @@ module _ (s : Sheet) {ord : List ℕ} (order : Order ord) (first : List ℕ) whe
                 ∙ ap₂ (λ (x : List ℕ) (c : ℕ). resume clo ord v first cs j (attempt clo (λ t. choose clo ord (drop (suc j) (places v)) t) (place v j) x (still ord c))) here (b .here)));
           }
         where
-          among-at : (j : ℕ) → j ≤ i → getD cs j 0 ⊆ getD (stand cs j) (place v j) 0
+          among-at : (j : ℕ) → j ≤ i → getD cs j 0 liesWithin getD (stand cs j) (place v j) 0
           among-at j h =
-              ⊎-elim (λ (e : j ≡ i). subst (λ (n : ℕ). getD cs n 0 ⊆ getD (stand cs n) (place v n) 0) (sym e) (try .among)) (λ l. try .stands .each j l .among)
+              ⊎-elim (λ (e : j ≡ i). subst (λ (n : ℕ). getD cs n 0 liesWithin getD (stand cs n) (place v n) 0) (sym e) (try .among)) (λ l. try .stands .each j l .among)
               (below-suc (le-below h))
       try-back ds w Found z = absurd z
       try-back ds w Spent f =

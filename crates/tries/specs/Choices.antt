@@ -4,7 +4,7 @@ use mathlib.Core.Bool.{true, false}
 use mathlib.Core.List.{List, [], _∷_}
 use Prim.Native.Nat.{ℕ, zero, suc, _^_, _≤_, _<_}
 use lib.ListN.{length, getD, set}
-use Rattle.rules.specs.Relations.{sets, has, meet, complement, size}
+use Rattle.rules.specs.Relations.{setLimit, has, meet, complement, size}
 use Rattle.rules.specs.Search.{places}
 use Rattle.tries.specs.declared.places.Place.{Place}
 use Rattle.tries.specs.declared.choices.Next.{Next}
@@ -28,7 +28,7 @@ less ord c = meet c (complement (pick ord c))
 -- a byte for each pair, each a set
 pub record Bytes (v : ℕ) (cs : List ℕ) : Type 0 where
   pub room : length (places v) ≤ length cs
-  pub small : (m : ℕ) → getD cs m 0 < sets
+  pub small : (m : ℕ) → getD cs m 0 < setLimit
 
 -- From the pair i up to the pair j each cell of t has at most one relation, which its byte keeps; the bytes before are as they were.
 pub record Passed (v : ℕ) (t cs : List ℕ) (i : ℕ) (ds : List ℕ) (j : ℕ) : Type 0 where

@@ -3,7 +3,7 @@ use mathlib.Core.Path.{_≡_}
 use mathlib.Core.List.{List}
 use Prim.Native.Nat.{ℕ, zero, suc, _<_}
 use lib.ListN.{getD, set, drop}
-use Rattle.rules.specs.Relations.{_⊆_}
+use Rattle.rules.specs.Relations.{_liesWithin_}
 use Rattle.rules.specs.Descriptions.{Sheet}
 use Rattle.rules.specs.Tables.{Table, Inside}
 use Rattle.rules.specs.Closed.{Closed, Largest}
@@ -45,7 +45,7 @@ module _ (clo : List ℕ → List ℕ) (ord : List ℕ) (v : ℕ) (first cs : Li
   -- the byte of pair i has relations of its cell, and with its choice the table is not contradictory
   pub record Chosen (i : ℕ) : Type 0 where
     pub some : getD cs i 0 ≡ 0 → ⊥
-    pub among : getD cs i 0 ⊆ getD (stood i) (place v i) 0
+    pub among : getD cs i 0 liesWithin getD (stood i) (place v i) 0
     pub filled : Filled (stood (suc i))
 
 -- a closed table without an empty cell
@@ -67,7 +67,7 @@ module _ (s : Sheet) (ord first : List ℕ) where
     pub within : at .q < s .boards
     pub stands : Stands cs (at .index)
     pub some : getD cs (at .index) 0 ≡ 0 → ⊥
-    pub among : getD cs (at .index) 0 ⊆ getD (stood (closing s) ord (s .boards) first cs (at .index)) (place (s .boards) (at .index)) 0
+    pub among : getD cs (at .index) 0 liesWithin getD (stood (closing s) ord (s .boards) first cs (at .index)) (place (s .boards) (at .index)) 0
     pub table : Table (s .boards) u
     pub inside : Inside u first
     pub closes : Largest s u (stood (closing s) ord (s .boards) first cs (at .index))

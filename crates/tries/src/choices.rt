@@ -2,7 +2,7 @@
 ghost use mathlib.Core.Path.{_≡_};
 ghost use Prim.Native.Nat.{_<_, _≤_};
 ghost use lib.ListN.{length};
-ghost use Rattle.rules.specs.Relations.{sets};
+ghost use Rattle.rules.specs.Relations.{setLimit};
 ghost use Rattle.rules.specs.Descriptions.{mostBoards};
 ghost use Rattle.rules.specs.Search.{Order, places};
 ghost use Rattle.passes.specs.Passes.{Ready};
@@ -22,7 +22,7 @@ pub(crate) enum Next {
 
 // The relation of a set that comes first in the order, as a set of one; nothing of an empty set.
 pub(crate) fn pick(order: &[u8], set: u8) -> u8
-    requires { ⌜ Order (now order) × (set < sets) ⌝ }
+    requires { ⌜ Order (now order) × (set < setLimit) ⌝ }
     ensures { λ r. ⌜ r ≡ pick (now (order .entry)) set ⌝ }
 {
     for i in 0..order.len() {
@@ -36,7 +36,7 @@ pub(crate) fn pick(order: &[u8], set: u8) -> u8
 
 // The set without it.
 fn less(order: &[u8], set: u8) -> u8
-    requires { ⌜ Order (now order) × (set < sets) ⌝ }
+    requires { ⌜ Order (now order) × (set < setLimit) ⌝ }
     ensures { λ r. ⌜ r ≡ less (now (order .entry)) set ⌝ }
 {
     let failed = pick(order, set);

@@ -5,14 +5,14 @@ use mathlib.Core.List.{List, [], _∷_, flatMap}
 use Prim.Native.Nat.{ℕ, _+_, _*_, _<_}
 use lib.Dec.{T, T-not}
 use lib.ListN.{length, getD}
-use Rattle.rules.specs.Relations.{relations, same, E, has, Lacks, setTo, setOf, meet, complement, _⊆_}
+use Rattle.rules.specs.Relations.{relations, same, E, has, Lacks, setTo, setOf, meet, complement, _liesWithin_}
 use Rattle.rules.specs.Descriptions.{KindLine}
 use Rattle.rules.specs.Tables.{cell, Table, upTo}
 use Rattle.rules.specs.Arrangements.{way, width, Alike}
 use Rattle.rules.specs.Closing.{agree, bound7, bound7′, Rule, Idle, lies, only, waysOf, rule7}
 use Rattle.rules.proofs.Tests.{T-true, T-false, true-T, each-at, each-all}
 use Rattle.rules.proofs.Digits.{has-single}
-use Rattle.rules.proofs.Sets.{⊆-refl, unshared-lacks, shared-has}
+use Rattle.rules.proofs.Sets.{lies-refl, unshared-lacks, shared-has}
 use Rattle.rules.proofs.Members.{All, all-one, one-all, all-append, append-left, append-right}
 use Rattle.rules.proofs.Rules.{same-small, all-only, only-all, all-ways, ways-all, alike-agree, bound7-apart, lacks7, said7, says7″, said7″, bound7-grows}
 use Rattle.passes.specs.Passes.{Filled, Narrowed, Ready, Pass, Quiet}
@@ -56,7 +56,7 @@ module _ (v : ℕ) (ws us : List ℕ) (i : ℕ) {y u : ℕ} (way-is : y ≡ getD
       → Narrowed s (v * y + u) E w n → Pass (Quiet v) v (flatMap (pair ws us) (upTo (i + 1))) t a w (b + n)
   joined-more {s = s} {w} {n = n} g k l m =
       pass-next (Quiet v) (pair ws us) i g k
-      (pass-strike (Quiet v) (record { row = getD ws i 0; column = getD us i 0; bound = λ t. E }) (λ u t i. ⊆-refl E) (k .kept .table)
+      (pass-strike (Quiet v) (record { row = getD ws i 0; column = getD us i 0; bound = λ t. E }) (λ u t i. lies-refl E) (k .kept .table)
       (subst (λ (j : ℕ). j < length s) cell-is l) refl (subst (λ (j : ℕ). Narrowed s j E w n) cell-is m) (λ unchanged idle filled. idle))
 
 -- ---- two kind lines
@@ -98,7 +98,7 @@ module _ (v : ℕ) (k l : KindLine) where
     here = ready-place ready p-below q-below
 
     -- if it is not empty and lies within {E} it is E
-    only-same : Filled t → between ⊆ E → between ≡ E
+    only-same : Filled t → between liesWithin E → between ≡ E
     only-same f s = filled-one same t (v * k .p + l .p) same-small (ready .table) f here s
 
     -- they are not the same: nothing is to be struck
@@ -120,7 +120,7 @@ module _ (v : ℕ) (k l : KindLine) where
 
     -- all of that agrees
     module _ (alike : Alike k l) {b : Bool} (each : b ≡ paired v t (k .ways) (l .ways)) (passed : b ≡ true) where
-      kept-same : between ⊆ bound7 v t k l
+      kept-same : between liesWithin bound7 v t k l
       kept-same =
           said7 v t k l (λ d. absurd (d alike))
           (λ a i m n.
@@ -150,7 +150,7 @@ module _ (v : ℕ) (k l : KindLine) where
                       (λ j m.
                       all-one (Idle v y)
                       (says7″ v y k l j (rule7-ways (Idle v y) d (alike-agree k l alike) j m)
-                      (subst (λ (b : ℕ). cell v y (k .p) (l .p) ⊆ b) e (i .each (v * k .p + l .p))))));
+                      (subst (λ (b : ℕ). cell v y (k .p) (l .p) liesWithin b) e (i .each (v * k .p + l .p))))));
                   counted = s .kept .counted;
                 };
             quiet =

@@ -3,7 +3,7 @@ use mathlib.Core.Path.{sym, ap, subst}
 use mathlib.Core.List.{List}
 use Prim.Native.Nat.{ℕ, _<_}
 use lib.ListN.{getD}
-use Rattle.rules.specs.Relations.{sets}
+use Rattle.rules.specs.Relations.{setLimit}
 use Rattle.passes.specs.Passes.{Ready}
 use Rattle.sheet.proofs.Described.{described}
 use Rattle.copies.proofs.Copying.{copied-none, copied-ready}
@@ -29,7 +29,7 @@ decided-requires c κs k =
     let start = c .before .before .before .before .before .before .before .before .before in
     let copy = c .before .before .before .before .copied .ensures in
     let ready = copied-ready copy (c .before .if1 .left) (start .pre .1 .boards) (start .pre .1 .table) in
-    subst (λ (x : ℕ). x < sets) (ap (λ (w : List ℕ). getD w k 0) (sym (copy .copy))) (ready .table .small k)
+    subst (λ (x : ℕ). x < setLimit) (ap (λ (w : List ℕ). getD w k 0) (sym (copy .copy))) (ready .table .small k)
 
 same-length-2 : tie.Need-same-length-2
 same-length-2 c = search needs

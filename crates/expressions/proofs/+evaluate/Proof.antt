@@ -8,7 +8,7 @@ use mathlib.Core.Path.{sym, subst, _∙_}
 use mathlib.Core.List.{List}
 use Rattle.expressions.specs.declared.Expression.{Expression}
 use Rattle.expressions.specs.declared.Expression.the-variants.{Set, Malformed}
-use Rattle.rules.specs.Relations.{sets}
+use Rattle.rules.specs.Relations.{setLimit}
 use Rattle.rules.proofs.Parts.{tail, tail-length}
 use borrow.Fn.Kinds.{In}
 use borrow.Fn.PlainCycle.{Measures, is, falls, and}
@@ -75,7 +75,7 @@ module _ (t : ℕ) (c : AtFirst t) where
   first : evaluation.Finds (drop 1 words) (Set (c .before .x .given .0 .0) left)
   first = lent 1 words _ (sym (c .before .x .given .1) ∙ c .before .before .before .evaluate .ensures)
 
-  first-small : c .before .x .given .0 .0 < sets
+  first-small : c .before .x .given .0 .0 < setLimit
   first-small = evaluation.operand _ _ _ first .small
 
   -- the second operand starts within the words, and there are fewer from there on
@@ -92,7 +92,7 @@ module _ (t : ℕ) (c : AtSecond t) where
       lent (length (words t before-second) - left t before-second) (words t before-second) _
       (sym (c .before .y .given .1) ∙ c .before .before .before .evaluate2 .ensures)
 
-  second-small : c .before .y .given .0 .0 < sets
+  second-small : c .before .y .given .0 .0 < setLimit
   second-small = evaluation.operand _ _ _ second .small
 
 evaluate-returns : (t : ℕ) → evaluate-lts.Need-returns (calls t) (evaluate-at t) evaluate.Post

@@ -6,7 +6,7 @@ use Prim.Native.Nat.{ℕ, _+_, _-_, _≤_, _<_}
 use native.Mathlib.Omega.{arith}
 use borrow.Author.Needs.{needs}
 use lib.ListN.{length}
-use Rattle.rules.specs.Relations.{sets}
+use Rattle.rules.specs.Relations.{setLimit}
 use Rattle.rules.specs.Tables.{upTo}
 use Rattle.rules.proofs.Sets.{single-small}
 use Rattle.rules.proofs.Rules.{relations-pos}
@@ -129,7 +129,7 @@ narrow-requires-2 : tie.Need-narrow-requires-2 Inv-loop2 μ-loop2 Inv-loop μ-lo
 narrow-requires-2 c κs =
     let table = ready-2 (c .before .before .before .before) in
     let i = c .before .before .before .before .before .before .before .before .before .before .before .loop .i in
-    let set : c .apart .result < sets = subst (λ (x : ℕ). x < sets) (sym (c .apart .ensures)) (apart-small i (c .before .before .before .before .loop2 .j)) in
+    let set : c .apart .result < setLimit = subst (λ (x : ℕ). x < setLimit) (sym (c .apart .ensures)) (apart-small i (c .before .before .before .before .loop2 .j)) in
     (ready-place table (board (c .before .before .before .before .before .before .before .before .before)) (other (c .before .before)), table .table .small _, set)
 
 loop2-again : tie.Need-loop2-again Inv-loop2 μ-loop2 Inv-loop μ-loop

@@ -7,7 +7,7 @@ use Prim.Native.Nat.{ℕ, _+_, _*_, _-_, _≤_, _<_}
 use native.Mathlib.Omega.{arith}
 use borrow.Author.Needs.{needs}
 use lib.ListN.{length}
-use Rattle.rules.specs.Relations.{sets}
+use Rattle.rules.specs.Relations.{setLimit}
 use Rattle.rules.specs.Tables.{cell, upTo}
 use Rattle.rules.specs.Closing.{rules3}
 use Rattle.rules.proofs.Composition.{compose-small}
@@ -168,7 +168,7 @@ narrow-requires c κs =
     let ready = ready-kept (ready-kept (ready-kept (start .pre) (sweep .inv .1 .kept)) (loop .inv .1 .kept)) (loop2 .inv .1 .kept) in (
       ready-place ready hp hr,
       ready .table .small (v * sweep .p + loop2 .r),
-      subst (λ (x : ℕ). x < sets) (sym (c .before .compose .ensures)) (compose-small (cell v (loop2 .cells) (sweep .p) (loop .q)) (cell v (loop2 .cells) (loop .q) (loop2 .r))),
+      subst (λ (x : ℕ). x < setLimit) (sym (c .before .compose .ensures)) (compose-small (cell v (loop2 .cells) (sweep .p) (loop .q)) (cell v (loop2 .cells) (loop .q) (loop2 .r))),
     )
 
 add-struck : tie.Need-add-struck Inv-loop2 μ-loop2 Inv-loop μ-loop Inv-sweep μ-sweep

@@ -3,7 +3,7 @@ use mathlib.Core.Path.{sym, subst}
 use mathlib.Core.List.{flatMap}
 use Prim.Native.Nat.{ℕ, _+_, _*_, _-_, _≤_, _<_}
 use native.Mathlib.Omega.{arith}
-use Rattle.rules.specs.Relations.{sets}
+use Rattle.rules.specs.Relations.{setLimit}
 use Rattle.rules.specs.Tables.{cell, upTo}
 use Rattle.rules.specs.Closing.{boardsOf, rules2}
 use Rattle.rules.proofs.Composition.{converse-small}
@@ -77,7 +77,7 @@ narrow-requires c κs =
     let ready = ready-kept (ready-kept (start .pre) (c .before .before .before .before .before .before .loop .inv .1 .kept)) (loop2 .inv .1 .kept) in (
       ready-place ready (c .before .before .before .loop2-test .taken) (c .before .before .before .before .before .loop-test .taken),
       ready .table .small (start .args .v * loop2 .q + p),
-      subst (λ (x : ℕ). x < sets) (sym (c .before .converse .ensures)) (converse-small (cell (start .args .v) (loop2 .cells) p (loop2 .q))),
+      subst (λ (x : ℕ). x < setLimit) (sym (c .before .converse .ensures)) (converse-small (cell (start .args .v) (loop2 .cells) p (loop2 .q))),
     )
 
 add-struck : tie.Need-add-struck Inv-loop2 μ-loop2 Inv-loop μ-loop

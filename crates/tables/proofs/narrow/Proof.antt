@@ -4,7 +4,7 @@ use Prim.Native.Nat.{ℕ, _≤_, _<_}
 use native.Mathlib.Omega.{arith}
 use borrow.Author.Needs.{needs}
 use lib.ListN.{getD}
-use Rattle.rules.specs.Relations.{sets, meet, size}
+use Rattle.rules.specs.Relations.{setLimit, meet, size}
 use Rattle.rules.proofs.Sets.{meet-small, meet-left, size-mono}
 use Rattle.tables.proofs.Narrowings.{narrowed-not, narrowed-so}
 use Rattle.tables.proofs.narrow.Statement.{statement}
@@ -28,7 +28,7 @@ size-requires c κs = search needs
 size-requires-2 : tie.Need-size-requires-2
 size-requires-2 c κs =
     let start = c .before .before .before .before .before in
-    subst (λ (x : ℕ). x < sets) (sym (c .before .before .meet .ensures)) (meet-small (getD (start .args .cells .now) (start .args .k) 0) (start .args .bound))
+    subst (λ (x : ℕ). x < setLimit) (sym (c .before .before .meet .ensures)) (meet-small (getD (start .args .cells .now) (start .args .k) 0) (start .args .bound))
 
 sub-result : tie.Need-sub-result
 sub-result c =

@@ -1,7 +1,7 @@
 -- `less` meets its contract: what is picked is a set, and what it leaves of the set is as defined. Assumes nothing.
 use mathlib.Core.Path.{sym, ap, _∙_, subst}
 use Prim.Native.Nat.{ℕ, _<_}
-use Rattle.rules.specs.Relations.{sets, meet, complement}
+use Rattle.rules.specs.Relations.{setLimit, meet, complement}
 use Rattle.tries.proofs.Picking.{pick-small, complement-small}
 use borrow.Author.Needs.{needs}
 use Rattle.tries.proofs.choices.less.Statement.{statement}
@@ -12,11 +12,11 @@ pick-requires c κs = search needs
 
 complement-requires : tie.Need-complement-requires
 complement-requires c κs =
-    let start = c .before .before in subst (λ (x : ℕ). x < sets) (sym (c .pick .ensures)) (pick-small (start .pre .0) (start .args .set) (start .pre .1))
+    let start = c .before .before in subst (λ (x : ℕ). x < setLimit) (sym (c .pick .ensures)) (pick-small (start .pre .0) (start .args .set) (start .pre .1))
 
 meet-requires : tie.Need-meet-requires
 meet-requires c κs =
-    (c .before .before .before .pre .1, subst (λ (x : ℕ). x < sets) (sym (c .complement .ensures)) (complement-small (c .before .pick .result)))
+    (c .before .before .before .pre .1, subst (λ (x : ℕ). x < setLimit) (sym (c .complement .ensures)) (complement-small (c .before .pick .result)))
 
 returns : tie.Need-returns
 returns c =

@@ -4,7 +4,7 @@ use mathlib.Core.Path.{refl, sym, ap, _∙_, subst}
 use Prim.Native.Nat.{ℕ, _-_, _<_}
 use native.Mathlib.Omega.{arith}
 use lib.ListN.{length}
-use Rattle.rules.specs.Relations.{sets, meet}
+use Rattle.rules.specs.Relations.{setLimit, meet}
 use Rattle.rules.proofs.Sets.{single-small}
 use Rattle.tries.proofs.Picking.{From, order-small, picked, passed, picked-none}
 use Rattle.tries.proofs.choices.pick.Statement.{statement}
@@ -28,7 +28,7 @@ single-requires c κs = order-small (c .before .before .before .before .pre .0) 
 meet-requires : tie.Need-meet-requires Inv-loop μ-loop
 meet-requires c κs =
     let start = c .before .before .before .before .before in
-    (start .pre .1, subst (λ (x : ℕ). x < sets) (sym (c .single .ensures)) (single-small (order-small (start .pre .0) (c .before .before .before .loop .i) (c .before .before .loop-test .taken))))
+    (start .pre .1, subst (λ (x : ℕ). x < setLimit) (sym (c .single .ensures)) (single-small (order-small (start .pre .0) (c .before .before .before .loop .i) (c .before .before .loop-test .taken))))
 
 returns : tie.Need-returns Inv-loop μ-loop
 returns c =

@@ -5,5 +5,6 @@ pub mod Links
 pub mod Splits
 pub mod Solutions
 pub mod Written
+pub mod Spelling
 pub mod Rendered
 pub mod Constraints

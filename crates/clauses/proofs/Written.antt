@@ -1,14 +1,16 @@
 -- The words of every good description write a description as it is published, which means what the words mean. Assumes nothing.
 use mathlib.Core.Path.{_≡_, refl, sym, ap, ap₂, _∙_, subst}
-use mathlib.Core.List.{List, [], _∷_, _++_, map, flatMap, map-id}
-use Prim.Native.Nat.{ℕ, zero, suc, _-_}
+use mathlib.Core.List.{List, [], _∷_, _++_, map, flatten, map-id}
+use Prim.Native.Nat.{ℕ, zero, suc, _+_, _-_, _≤_}
 use native.Mathlib.Omega.{arith}
-use lib.ListN.{length, getD, take, drop, take-append-drop}
-use lib.Seq.{length-take-le}
+use lib.ListN.{length, getD, take, drop, take-append-drop, length-drop}
+use lib.Seq.{length-take-le, drop-cons, drop-drop}
 use Rattle.rules.specs.Expressions.{Value, value, malformed, expression, written}
 use Rattle.rules.specs.Descriptions.{RelationLine, KindLine, Sheet, Reading, good, Front, need, next, meaning, relationLine, kindLine, section, numbersFit, offsetsFit, relationLines, kindLines, read}
+use Rattle.rules.specs.Cases.{describe}
 use Rattle.rules.proofs.Expressions.{expression-written}
-use Rattle.rules.proofs.Readings.{never, need-rest, next-out}
+use Rattle.rules.proofs.Readings.{never, need-test, need-rest, next-out}
+use Rattle.rules.proofs.Headers.{InRange, Placed, numbers-out, places-out}
 use Rattle.rules.proofs.Lines.{RelationRead, relation-out, KindRead, kind-out, ways-length}
 use Rattle.clauses.specs.Clauses.{Description, line, sheet, formulaWords, labelWords, Writes}
 
@@ -63,34 +65,64 @@ kind-written v ws f e = go ws (kind-out v ws f e)
 -- ---- a section
 
 module _ {X Y : Type 0} (words : Y → List ℕ) (means : Y → X) where
-  -- what the words of a section write, a line each
-  record Filled (ws : List ℕ) (xs : List X) : Type 0 where
+  -- what the words of a section of n lines write, a line each
+  record Filled (n : ℕ) (ws : List ℕ) (xs : List X) : Type 0 where
     written : List Y
-    spelt : ws ≡ flatMap words written
+    counted : length (map words written) ≡ n
+    spelt : ws ≡ flatten (map words written)
     meant : map means written ≡ xs
 
   section-written : (line : List ℕ → Reading (Front X)) → ((ws : List ℕ) (f : Front X) → line ws ≡ good f → Fronted words means ws f)
-      → (n : ℕ) (ws : List ℕ) (xs : List X) → section line n ws ≡ good xs → Filled ws xs
-  unfolding section flatMap
-  section-written line h zero [] xs e = record { written = []; spelt = refl; meant = cc }
+      → (n : ℕ) (ws : List ℕ) (xs : List X) → section line n ws ≡ good xs → Filled n ws xs
+  unfolding section flatten
+  section-written line h zero [] xs e = record { written = []; counted = refl; spelt = refl; meant = cc }
   section-written line h zero (w ∷ ws) xs e = never 3 xs e
   section-written line h (suc n) ws xs e = from (next-out (line ws) _ xs e) (λ us ys d. section-written line h n us ys d)
     where
       from : (f : Front X) × (line ws ≡ good f) × (next (section line n (f .rest)) (λ ls. good (f .line ∷ ls)) ≡ good xs)
-          → ((us : List ℕ) (ys : List X) → section line n us ≡ good ys → Filled us ys) → Filled ws xs
+          → ((us : List ℕ) (ys : List X) → section line n us ≡ good ys → Filled n us ys) → Filled (suc n) ws xs
       from (f, d, g) go = on (next-out (section line n (f .rest)) _ xs g)
         where
-          on : (ls : List X) × (section line n (f .rest) ≡ good ls) × (good (f .line ∷ ls) ≡ good xs) → Filled ws xs
+          on : (ls : List X) × (section line n (f .rest) ≡ good ls) × (good (f .line ∷ ls) ≡ good xs) → Filled (suc n) ws xs
           on (ls, a, b) =
               let first = h ws f d in
               let others = go (f .rest) ls a in
               record {
                 written = first .written ∷ others .written;
+                counted = ap suc (others .counted);
                 spelt = first .spelt ∙ ap (λ (us : List ℕ). words (first .written) ++ us) (others .spelt);
                 meant = ap₂ (λ (x : X) (us : List X). x ∷ us) (first .meant) (others .meant) ∙ cc;
               }
 
 -- ---- a description
+
+-- the header's six words and the words after them
+header-words : (ws : List ℕ) → 6 ≤ length ws
+    → ws ≡ getD ws 0 0 ∷ getD ws 1 0 ∷ getD ws 2 0 ∷ getD ws 3 0 ∷ getD ws 4 0 ∷ getD ws 5 0 ∷ drop 6 ws
+header-words ws h =
+    cc (
+      drop-cons ws 0 0 (omega arith),
+      drop-cons ws 1 0 (omega arith),
+      drop-cons ws 2 0 (omega arith),
+      drop-cons ws 3 0 (omega arith),
+      drop-cons ws 4 0 (omega arith),
+      drop-cons ws 5 0 (omega arith),
+    )
+
+-- words whose header fits, and whose two sections are the words of these lines, are those that describe the lines
+sections-described : (ws : List ℕ) → InRange ws → Placed ws → (ls ks : List (List ℕ)) → length ls ≡ getD ws 1 0 → length ks ≡ getD ws 2 0
+    → take (getD ws 4 0 - 6) (drop 6 ws) ≡ flatten ls → drop (getD ws 4 0) ws ≡ flatten ks → ws ≡ describe (getD ws 0 0) ls ks
+sections-described ws r p ls ks m n a b =
+    let front : length (flatten ls) ≡ getD ws 4 0 - 6 =
+    ap length (sym a) ∙ length-take-le (getD ws 4 0 - 6) (drop 6 ws) (omega (arith, length-drop 6 ws)) in
+    let back : length (flatten ks) ≡ length ws - getD ws 4 0 = ap length (sym b) ∙ length-drop (getD ws 4 0) ws in
+    let seam : 6 + (getD ws 4 0 - 6) ≡ getD ws 4 0 = omega arith in
+    let after : drop 6 ws ≡ flatten ls ++ flatten ks =
+    sym (take-append-drop (getD ws 4 0 - 6) (drop 6 ws))
+    ∙ ap₂ (λ (us vs : List ℕ). us ++ vs) a (drop-drop (getD ws 4 0 - 6) 6 ws ∙ ap (λ (i : ℕ). drop i ws) seam ∙ b) in
+    let fourth : getD ws 4 0 ≡ 6 + length (flatten ls) = omega arith in
+    let fifth : getD ws 5 0 ≡ 6 + length (flatten ls) + length (flatten ks) = omega arith in
+    header-words ws (r .six) ∙ cc
 
 -- the words of a good description write a published one, and it means what they mean
 pub read-writes : (ws : List ℕ) (s : Sheet) → read ws ≡ good s → (φ : Description) × Writes ws φ × (sheet φ ≡ s)
@@ -109,14 +141,21 @@ read-writes ws s e = lines (next-out (relationLines ws) ruled s third)
     third : next (relationLines ws) ruled ≡ good s
     third = need-rest 2 (offsetsFit ws) (next (relationLines ws) ruled) s second
 
-    kinds : (ls : List RelationLine) → Filled formulaWords line (take (getD ws 4 0 - 6) (drop 6 ws)) ls
+    numbers : InRange ws
+    numbers = numbers-out ws (need-test 1 (numbersFit ws) (need 2 (offsetsFit ws) (next (relationLines ws) ruled)) s e)
+
+    places : Placed ws
+    places = places-out ws (need-test 2 (offsetsFit ws) (next (relationLines ws) ruled) s second)
+
+    kinds : (ls : List RelationLine) → Filled formulaWords line (getD ws 1 0) (take (getD ws 4 0 - 6) (drop 6 ws)) ls
         → (ks : List KindLine) × (kindLines ws ≡ good ks) × (good (made ls ks) ≡ good s) → (φ : Description) × Writes ws φ × (sheet φ ≡ s)
     kinds ls a (ks, d, g) =
         let b =
         section-written labelWords (λ k. k) (kindLine (getD ws 0 0)) (kind-written (getD ws 0 0)) (getD ws 2 0) (drop (getD ws 4 0) ws) ks d in
         let c : b .written ≡ ks = sym (map-id (b .written)) ∙ b .meant in (
           record { boards = getD ws 0 0; formulas = a .written; labels = b .written },
-          record { boards = refl; formulas = a .spelt; labels = b .spelt },
+          sections-described ws numbers places (map formulaWords (a .written)) (map labelWords (b .written)) (a .counted) (b .counted) (a .spelt)
+              (b .spelt),
           ap₂ made (a .meant) c ∙ cc,
         )
 

@@ -3,15 +3,16 @@
 use mathlib.Core.Path.{_≡_}
 use mathlib.Core.Bool.{Bool, true, false, _&&_, _||_}
 use mathlib.Core.Logic.{_⊎_}
-use mathlib.Core.List.{List, [], _∷_, map, flatMap, List·Memᴰ}
-use Prim.Native.Nat.{ℕ, suc, _-_, _^_, _≤_, _<_}
+use mathlib.Core.List.{List, [], _∷_, map, List·Memᴰ}
+use Prim.Native.Nat.{ℕ, suc, _^_, _≤_, _<_}
 use lib.Dec.{T, eqb, leb}
-use lib.ListN.{length, getD, take, drop}
+use lib.ListN.{length, getD}
 use Rattle.rules.specs.Relations.{relations, E, A, B, S}
 use Rattle.rules.specs.Expressions.{Phrase, onlyE, onlyA, onlyB, onlyS, unionOf, intersectionOf, complementOf, inverseOf, written, denoted}
 use Rattle.rules.specs.Descriptions.{RelationLine, KindLine, Sheet}
 use Rattle.rules.specs.Tables.{cell, Table}
 use Rattle.rules.specs.Arrangements.{way, width}
+use Rattle.rules.specs.Cases.{describe}
 
 -- ---- descriptions as they are published
 
@@ -41,11 +42,14 @@ formulaWords f = f .x ∷ f .y ∷ length (written (f .relation)) ∷ written (f
 abbrev pub labelWords : KindLine → List ℕ
 labelWords k = k .p ∷ k .code ∷ width k ∷ k .ways
 
--- the words of a description write φ: the number of boards, the formulas in their section, the labels in theirs
-pub record Writes (ws : List ℕ) (φ : Description) : Type 0 where
-  pub boards : getD ws 0 0 ≡ φ .boards
-  pub formulas : take (getD ws 4 0 - 6) (drop 6 ws) ≡ flatMap formulaWords (φ .formulas)
-  pub labels : drop (getD ws 4 0) ws ≡ flatMap labelWords (φ .labels)
+-- The words of a description: the six of its header, then those of its formulas, then those of its labels. The header has the numbers of boards,
+-- formulas and labels, where the words of the formulas begin, where those of the labels begin, and how many words there are.
+abbrev pub descriptionWords : Description → List ℕ
+descriptionWords φ = describe (φ .boards) (map formulaWords (φ .formulas)) (map labelWords (φ .labels))
+
+-- the words write φ: they are the words of φ, all of them and no others
+abbrev pub Writes : List ℕ → Description → Type 0
+Writes ws φ = ws ≡ descriptionWords φ
 
 -- ---- sets of boards
 

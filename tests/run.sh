@@ -1,11 +1,27 @@
 #!/bin/sh
-# All that is claimed, from nothing: 'rt ci' proves every crate, tries the edits that must be refused and runs the programs over what is stored; then what
-# it built is tried as users have it. The last line is the verdict over both, 'N passed, 0 failed'.
+# All that is claimed, from nothing: what the documents name is compared with the tree; 'rt ci' proves every crate, tries the edits that must be refused and
+# runs the programs over what is stored; then what it built is tried as users have it. The last line is the verdict over all, 'N passed, 0 failed'.
 set -u
 cd "$(dirname "$0")/.."
 
 room=$(mktemp -d) || exit 2
 trap 'rm -rf "$room"' EXIT
+passed=0 failed=0
+
+try() { # NAME COMMAND...
+    name=$1
+    shift
+    if "$@"; then
+        echo "test $name: passed"
+        passed=$((passed + 1))
+    else
+        echo "test $name: FAILED"
+        failed=$((failed + 1))
+    fi
+}
+
+# This takes a second, so it comes first.
+try "what the documents name" sh tests/statements.sh
 
 # All that rt ci writes goes on at once, but for its last line, which is held back.
 hold_last() {
@@ -25,19 +41,7 @@ if [ "$(cat "$room/status")" -ne 0 ]; then
     printf '%s\n' "$verdict"
     exit 1
 fi
-passed=${verdict%% passed,*} failed=0
-
-try() { # NAME COMMAND...
-    name=$1
-    shift
-    if "$@"; then
-        echo "test $name: passed"
-        passed=$((passed + 1))
-    else
-        echo "test $name: FAILED"
-        failed=$((failed + 1))
-    fi
-}
+passed=$((passed + ${verdict%% passed,*}))
 
 try "the example in C" make --no-print-directory c_example
 try "the examples of sites" sh tests/examples.sh

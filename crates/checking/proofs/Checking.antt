@@ -1,9 +1,9 @@
--- The check of a table, by its cases: what is refused before it is looked at, a cell that is not single, a table that closing strikes something of or
--- empties, an arrangement. Assumes nothing.
-use mathlib.Core.Path.{_≡_, sym, ap, _∙_, subst}
+-- The check of a table, by its cases: what is refused before it is looked at, a cell that is not single, a table that closing empties, an arrangement.
+-- Assumes nothing.
+use mathlib.Core.Path.{_≡_, refl, sym, ap, _∙_, subst}
 use mathlib.Core.Bool.{Bool, true, false, not}
-use mathlib.Core.List.{List}
-use Prim.Native.Nat.{ℕ, _+_, _≤_, _<_}
+use mathlib.Core.List.{List, [], _∷_}
+use Prim.Native.Nat.{ℕ, suc, _+_, _≤_, _<_}
 use native.Mathlib.Omega.{arith}
 use borrow.Author.Tests.{not-true, not-false}
 use lib.Dec.{T, eqb, eqb→eq}
@@ -17,12 +17,12 @@ use Rattle.rules.specs.Calls.{Outcome, refuse, succeed, idle, arranged, check}
 use Rattle.rules.proofs.Tests.{T-true, T-false, true-T, and-T, T-and-left}
 use Rattle.rules.proofs.Sets.{lies-within}
 use Rattle.rules.proofs.Members.{each-of-in, each-of-out, each-of-places, member-at}
-use Rattle.rules.proofs.Inside.{inside-refl, total-mono, total-tight, emptied-inside}
+use Rattle.rules.proofs.Inside.{inside-refl, total-tight, emptied-inside}
 use Rattle.rules.proofs.Descriptions.{read-wellFormed}
 use Rattle.rules.proofs.Rules.{closed-idle}
 use Rattle.rules.proofs.Largest.{closing-largest}
 use Rattle.rules.proofs.Arrangements.{arrangement-kept, arrangement-whole}
-use Rattle.rules.proofs.Calls.{given-refused, given-no-table, given-good, arranged-arrangement}
+use Rattle.rules.proofs.Calls.{total-least, given-refused, given-no-table, given-good, arranged-arrangement}
 use Rattle.passes.specs.Passes.{Ready}
 use Rattle.sweeps.specs.declared.Swept.{Swept}
 use Rattle.sweeps.specs.declared.Swept.the-variants.{Struck, Emptied}
@@ -31,16 +31,36 @@ use Rattle.settling.specs.Closes.{Closes, closes}
 -- ---- single cells
 
 -- each cell has one relation, as a test
-abbrev pub singles : List ℕ → Bool
-singles t = eachOf (λ x. eqb (size x) 1) t
+abbrev pub allSingle : List ℕ → Bool
+allSingle t = eachOf (λ x. eqb (size x) 1) t
 
-pub singles-each : (t : List ℕ) → ((k : ℕ) → k < length t → size (getD t k 0) ≡ 1) → true ≡ singles t
-singles-each t f =
-    sym (T-true {b = singles t} (each-of-places (λ x. eqb (size x) 1) t (λ k l. subst (λ (n : ℕ). T (eqb n 1)) (sym (f k l)) tt)))
+pub single-each : (t : List ℕ) → ((k : ℕ) → k < length t → size (getD t k 0) ≡ 1) → true ≡ allSingle t
+single-each t f =
+    sym (T-true {b = allSingle t} (each-of-places (λ x. eqb (size x) 1) t (λ k l. subst (λ (n : ℕ). T (eqb n 1)) (sym (f k l)) tt)))
 
-pub singles-none : (t : List ℕ) (k : ℕ) → k < length t → (size (getD t k 0) ≡ 1 → ⊥) → false ≡ singles t
-singles-none t k l f =
-    sym (T-false {b = singles t} (λ a. f (eqb→eq (size (getD t k 0)) 1 (each-of-out (λ x. eqb (size x) 1) t a (getD t k 0) (member-at t k l)))))
+pub single-none : (t : List ℕ) (k : ℕ) → k < length t → (size (getD t k 0) ≡ 1 → ⊥) → false ≡ allSingle t
+single-none t k l f =
+    sym (T-false {b = allSingle t} (λ a. f (eqb→eq (size (getD t k 0)) 1 (each-of-out (λ x. eqb (size x) 1) t a (getD t k 0) (member-at t k l)))))
+
+-- a table of single cells has as many relations as cells
+total-single : (t : List ℕ) → allSingle t ≡ true → total t ≡ length t
+unfolding total
+total-single [] e = refl
+total-single (x ∷ xs) e = by (eqb (size x) 1) refl e (λ more. total-single xs more)
+  where
+    by : (b : Bool) → eqb (size x) 1 ≡ b → elim b [ true ↦ allSingle xs | false ↦ false ] ≡ true → (allSingle xs ≡ true → total xs ≡ length xs)
+        → size x + total xs ≡ suc (length xs)
+    by true one more rest = omega (arith, eqb→eq (size x) 1 (true-T one), rest more)
+    by false one more rest = cc
+
+-- Of a table of single cells closing strikes nothing, or it leaves an empty cell.
+pub single-unstruck : {s : Sheet} {t w : List ℕ} {n : ℕ} → Table (s .boards) t → allSingle t ≡ true → Closes s t w n → n ≡ 0
+single-unstruck {s} {t} {w} {n} table e k =
+    let counted : n + total w ≡ total t = k .counted in
+    let cells : length w ≡ length t = k .largest .inside .cells in
+    let least : length w ≤ total w = total-least w (k .largest .table .small) (k .filled) in
+    let all : total t ≡ length t = total-single t e in
+    omega arith
 
 -- ---- the call
 
@@ -73,18 +93,11 @@ module _ (ws t : List ℕ) where
       check-not f = sym (check-good ∙ ap by-test (T-false {b = arranged s t} f))
 
       -- a cell has none or several relations
-      not-single : singles t ≡ false → T (arranged s t) → ⊥
+      not-single : allSingle t ≡ false → T (arranged s t) → ⊥
       unfolding arranged
-      not-single e a = subst T e (T-and-left (singles t) (eachOf (idle (s .boards) t) (rules s)) a)
+      not-single e a = subst T e (T-and-left (allSingle t) (eachOf (idle (s .boards) t) (rules s)) a)
 
-      -- an arrangement is kept by closing, so nothing is struck and no cell is emptied
-      kept-total : {w : List ℕ} {n : ℕ} → Closes s t w n → T (arranged s t) → n ≡ 0
-      kept-total {w} {n} k a =
-          let f = read-wellFormed ws s means in
-          let l : total t ≤ total w = total-mono (arrangement-kept f (k .largest) (arranged-arrangement f table a) (inside-refl t)) in
-          let e : n + total w ≡ total t = k .counted in
-          omega arith
-
+      -- an arrangement is kept by closing, so no cell is emptied
       not-emptied : T (emptied (closing s t)) → T (arranged s t) → ⊥
       not-emptied e a =
           let f = read-wellFormed ws s means in
@@ -92,10 +105,10 @@ module _ (ws t : List ℕ) where
           arrangement-whole r (emptied-inside table (arrangement-kept f (closing-largest s t table) r (inside-refl t)) e)
 
       -- a table of single cells of which closing strikes nothing is closed, so it is an arrangement
-      closed-arranged : singles t ≡ true → Closed s t → T (arranged s t)
+      closed-arranged : allSingle t ≡ true → Closed s t → T (arranged s t)
       unfolding arranged
       closed-arranged e c =
-          and-T (singles t) (eachOf (idle (s .boards) t) (rules s)) (true-T e)
+          and-T (allSingle t) (eachOf (idle (s .boards) t) (rules s)) (true-T e)
           (each-of-in (idle (s .boards) t) (rules s) (λ r m. lies-within (closed-idle c r m)))
 
       same-closed : {w : List ℕ} {n : ℕ} → Closes s t w n → n ≡ 0 → Closed s t
@@ -108,9 +121,9 @@ module _ (ws t : List ℕ) {s : Sheet} (means : read ws ≡ good s) {v : ℕ} (b
   table : Table (s .boards) t
   table = subst (λ (n : ℕ). Table n t) boards (ready .table)
 
-  module _ {b : Bool} (said : b ≡ singles u) where
+  module _ {b : Bool} (said : b ≡ allSingle u) where
     pub check-several : not b ≡ true → refuse 10 0 t ≡ check ws t
-    check-several e = check-not ws t s means table (not-single ws t s means table (ap singles (sym copy) ∙ sym said ∙ not-true b e))
+    check-several e = check-not ws t s means table (not-single ws t s means table (ap allSingle (sym copy) ∙ sym said ∙ not-true b e))
 
     module _ (w : List ℕ) (r : Swept) (closed : closes s u w r) where
       under : closes s t w r
@@ -119,11 +132,9 @@ module _ (ws t : List ℕ) {s : Sheet} (means : read ws ≡ good s) {v : ℕ} (b
       pub check-emptied : r ≡ Emptied → refuse 10 0 t ≡ check ws t
       check-emptied e = check-not ws t s means table (not-emptied ws t s means table (subst (closes s t w) e under))
 
-      pub check-struck : {n : ℕ} → r ≡ Struck n → (n ≡ 0 → ⊥) → refuse 10 0 t ≡ check ws t
-      check-struck {n} e f = check-not ws t s means table (λ a. f (kept-total ws t s means table (subst (closes s t w) e under) a))
-
-      pub check-idle : {n : ℕ} → not b ≡ false → r ≡ Struck n → n ≡ 0 → succeed 0 t ≡ check ws t
-      check-idle d e z =
+      pub check-closed : {n : ℕ} → not b ≡ false → r ≡ Struck n → succeed 0 t ≡ check ws t
+      check-closed d e =
+          let single = ap allSingle (sym copy) ∙ sym said ∙ not-false b d in
+          let k = subst (closes s t w) e under in
           check-arranged ws t s means table
-          (closed-arranged ws t s means table (ap singles (sym copy) ∙ sym said ∙ not-false b d)
-          (same-closed ws t s means table (subst (closes s t w) e under) z))
+          (closed-arranged ws t s means table single (same-closed ws t s means table k (single-unstruck table single k)))

@@ -1,10 +1,12 @@
--- Any two answers that the contract of `check` permits are equal. Assumes nothing.
-use mathlib.Core.Path.{_≡_, sym, _∙_}
-use mathlib.Core.List.{List}
-use Prim.Native.Nat.{ℕ}
-use Rattle.answers.specs.declared.Answer.{Answer}
+-- `check` takes whatever it is lent, and any two answers that its contract permits are equal. Assumes nothing.
+use mathlib.Core.Path.{sym, _∙_}
+use Rattle.contracts.specs.Contracts.{AsksNothing, OneResult}
 use Rattle.answers.proofs.Outcomes.{outcome-determined}
-use Rattle.checking.specs.Runs.{Checking}
+use Rattle.checking.proofs.check.Kinds as check-kinds
+use Rattle.checking.proofs.check.Reads as check
 
-pub check-determined : (ws t : List ℕ) (a b : Answer) → Checking ws t a → Checking ws t b → a ≡ b
-check-determined ws t a b p q = outcome-determined a b t t (p ∙ sym q) .0
+pub check-asks-nothing : AsksNothing 2 check-kinds.ps check.Asked
+check-asks-nothing κs a = tt
+
+pub check-determined : OneResult 2 check-kinds.ps check-kinds.r check.Asked check.Learnt
+check-determined κs a asked x y d e p q = outcome-determined x y (a .1 .0 .now) (a .1 .0 .now) (p ∙ sym q) .0

@@ -1,6 +1,6 @@
 // The check of a table that somebody proposes: is it an arrangement of the description?
 ghost use mathlib.Core.Path.{_≡_};
-ghost use lib.ListN.{length, getD};
+ghost use lib.ListN.{getD};
 ghost use lib.Dec.{eqb};
 ghost use Prim.Native.Nat.{ℕ, _<_};
 ghost use Rattle.rules.specs.Relations.{eachOf, setLimit, size};
@@ -15,7 +15,7 @@ use headers::HeaderFound;
 use sweeps::Swept;
 
 // The refusal of a check: the table is no arrangement.
-pub const NO_ARRANGEMENT: u8 = 10;
+const NO_ARRANGEMENT: u8 = 10;
 
 // Each cell has one relation.
 fn decided(cells: &[u8]) -> bool
@@ -30,7 +30,8 @@ fn decided(cells: &[u8]) -> bool
     true
 }
 
-// Checks a table of the right number of cells: in a copy of it, where each cell is decided, no rule strikes anything.
+// Checks a table of the right number of cells: each cell of a copy is decided, and closing the copy empties none. Closing then strikes nothing, since a
+// strike empties a decided cell.
 fn check_by_copy(h: Header, words: &[u16], table: &[u8], cells: &mut [u8]) -> Answer
     requires { ⌜ (Good h ≡ descriptionFound (now words)) × Working (h .boards) (now table) (now cells) ⌝ }
     ensures { λ a. ⌜ outcome a (now (table .entry)) ≡ check (now (words .entry)) (now (table .entry)) ⌝ }
@@ -47,18 +48,12 @@ fn check_by_copy(h: Header, words: &[u16], table: &[u8], cells: &mut [u8]) -> An
             count: 0,
         };
     }
-    let Swept::Struck(struck) = settling::settle(h, words, cells) else {
+    let Swept::Struck(_) = settling::settle(h, words, cells) else {
         return Answer {
             number: NO_ARRANGEMENT,
             count: 0,
         };
     };
-    if struck != 0 {
-        return Answer {
-            number: NO_ARRANGEMENT,
-            count: 0,
-        };
-    }
     Answer {
         number: 0,
         count: 0,

@@ -1,6 +1,6 @@
 -- Words write one description at most, a description is written by one run of words at most, and what it means is what the words are read as.
 -- Assumes nothing.
-use mathlib.Core.Path.{_≡_, refl, sym, ap, _∙_}
+use mathlib.Core.Path.{_≡_, refl, ap, _∙_}
 use mathlib.Core.List.{List, [], _∷_, _++_, map, flatten, append-assoc, append-cancel-left}
 use Prim.Native.Nat.{ℕ}
 use native.Mathlib.Omega.{arith}

@@ -11,7 +11,7 @@ use headers::HeaderFound;
 use sweeps::Swept;
 
 // The refusal of a closing: the largest closed table has an empty cell.
-pub const CONTRADICTORY: u8 = 7;
+const CONTRADICTORY: u8 = 7;
 
 // Closes a table of the right number of cells, by a working copy of it.
 fn close_by_copy(h: Header, words: &[u16], table: &mut [u8], cells: &mut [u8]) -> Answer

@@ -1,17 +1,18 @@
 -- Any two copies that a contract of this crate permits are equal. Assumes nothing.
-use mathlib.Core.Path.{_≡_, sym, _∙_}
-use mathlib.Core.Bool.{Bool}
-use mathlib.Core.List.{List}
-use Prim.Native.Nat.{ℕ}
-use lib.ListN.{replicate}
-use Rattle.passes.specs.Passes.{mostCells}
-use Rattle.copies.specs.Copies.{Copied}
+use mathlib.Core.Path.{refl, sym, _∙_}
+use Rattle.contracts.specs.Contracts.{OneResult, OneOutcome}
+use Rattle.copies.proofs.copied.Kinds as copied-kinds
+use Rattle.copies.proofs.copied.Reads as copied
+use Rattle.copies.proofs.copy.Kinds as copy-kinds
+use Rattle.copies.proofs.copy.Reads as copy
+use Rattle.copies.proofs.room.Kinds as room-kinds
+use Rattle.copies.proofs.room.Reads as room
 
-pub copied-determined : (t u w : List ℕ) (a b : Bool) → Copied t u a → Copied t w b → (a ≡ b) × (u ≡ w)
-copied-determined t u w a b p q = (p .said ∙ sym (q .said), p .copy ∙ sym (q .copy))
+pub copied-determined : OneOutcome 2 copied-kinds.ps copied-kinds.r copied.Asked copied.Learnt (λ κs e. e .1 .0 .now)
+copied-determined κs a asked x y d e p q = (p .said ∙ sym (q .said), p .copy ∙ sym (q .copy))
 
-pub copy-determined : (from u w : List ℕ) → u ≡ from → w ≡ from → u ≡ w
-copy-determined from u w p q = p ∙ sym q
+pub copy-determined : OneOutcome 2 copy-kinds.ps copy-kinds.r copy.Asked copy.Learnt (λ κs e. e .1 .0 .now)
+copy-determined κs a asked x y d e p q = (refl, p ∙ sym q)
 
-pub room-determined : (u w : List ℕ) → u ≡ replicate mostCells 0 → w ≡ replicate mostCells 0 → u ≡ w
-room-determined u w p q = p ∙ sym q
+pub room-determined : OneResult 0 room-kinds.ps room-kinds.r room.Asked room.Learnt
+room-determined κs a asked x y d e p q = p ∙ sym q

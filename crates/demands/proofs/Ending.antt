@@ -19,7 +19,8 @@ use Rattle.rules.proofs.Arrangements.{arrangement-whole}
 use Rattle.rules.proofs.Largest.{closing-largest}
 use Rattle.answers.specs.declared.Answer.{Answer}
 use Rattle.answers.specs.Answers.{outcome}
-use Rattle.closing.specs.Runs.{Stage, sheets, Closing, contradictory, Called}
+use Rattle.demands.specs.Entries.{Closing}
+use Rattle.demands.specs.Runs.{Stage, sheets, contradictory, Called}
 use Rattle.closing.proofs.Calling.{by-cells, close-good}
 
 -- what an answer says and what is left, by whether the largest closed table has an empty cell
@@ -74,21 +75,21 @@ module _ {s : Sheet} {t : List ℕ} {a : Answer} {w : List ℕ} (ended : (b : Bo
       go true e = absurd (arrangement-whole r (emptied-inside (r .table) kept (true-T (e .empty))))
       go false e = (e .number, subst (Inside x) (sym (e .leaves)) kept)
 
-  pub ends-contradictory : (u : List ℕ) → closing s t ≡ u → (a .number ≡ 7) ↔ T (emptied u)
-  ends-contradictory u same = go (ended .0) (ended .1)
+  pub ends-contradictory : (a .number ≡ 7) ↔ T (emptied (closing s t))
+  ends-contradictory = go (ended .0) (ended .1)
     where
-      go : (b : Bool) → Ends s t a w b → (a .number ≡ 7) ↔ T (emptied u)
-      go true e = (λ n. subst (λ (v : List ℕ). T (emptied v)) same (true-T (e .empty)), λ t. e .number)
+      go : (b : Bool) → Ends s t a w b → (a .number ≡ 7) ↔ T (emptied (closing s t))
+      go true e = (λ n. true-T (e .empty), λ t. e .number)
       go false e = (
         λ n. let z : _≡_ {A = ℕ} 0 7 = sym (e .number) ∙ n in let y : ⊥ = omega arith in absurd y,
-        λ t. absurd (subst T (sym (ap emptied same) ∙ e .empty) t),
+        λ t. absurd (subst T (e .empty) t),
       )
 
 -- ---- stages
 
 module _ {v : ℕ} where
   -- calls whose descriptions have v boards are a run of closings
-  pub run : (gs : List Stage) → ((g : Stage) → List·Memᴰ g gs → g .sheet .boards ≡ v) → (t w : List ℕ) (c : Bool) → Table v t → Called gs t w c
+  pub run : (gs : List Stage) → ((g : Stage) → List·Memᴰ g gs → g .sheet .boards ≡ v) → (t w : List ℕ) (c : Bool) → Table v t → Called Closing gs t w c
       → Run (sheets gs) t w c
   unfolding Called Run
   run [] f t w c h r = r
@@ -98,14 +99,14 @@ module _ {v : ℕ} where
       step (e .0) (e .1) (closing-largest (g .sheet) t table) (λ x y d k q. run gs (λ x m. f x (List·Memᴰ·tail m)) x y d k q)
     where
       step : (b : Bool) → Ends (g .sheet) t (r .0) (r .1) b → Largest (g .sheet) t (closing (g .sheet) t)
-          → ((x y : List ℕ) (d : Bool) → Table v x → Called gs x y d → Run (sheets gs) x y d)
+          → ((x y : List ℕ) (d : Bool) → Table v x → Called Closing gs x y d → Run (sheets gs) x y d)
           → (u : List ℕ) × (d : Bool) × Largest (g .sheet) t u × Run (sheets gs) (left (emptied u) t u) w d × (c ≡ (emptied u || d))
       step b e l k = (
         closing (g .sheet) t,
         r .2,
         l,
         k (left (emptied (closing (g .sheet) t)) t (closing (g .sheet) t)) w (r .2) (stays (emptied (closing (g .sheet) t)))
-            (subst (λ (x : List ℕ). Called gs x w (r .2)) (e .leaves ∙ ap (λ (b : Bool). left b t (closing (g .sheet) t)) (sym (e .empty))) (r .4)),
+            (subst (λ (x : List ℕ). Called Closing gs x w (r .2)) (e .leaves ∙ ap (λ (b : Bool). left b t (closing (g .sheet) t)) (sym (e .empty))) (r .4)),
         r .5 ∙ ap (λ (b : Bool). b || r .2) (e .says ∙ sym (e .empty)),
       )
         where

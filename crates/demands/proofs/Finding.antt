@@ -4,17 +4,15 @@ use mathlib.Core.Path.{_≡_, refl, sym, ap, ap₂, _∙_, subst}
 use mathlib.Core.Logic.{_⊎_, inl, inr, ⊎-elim, _↔_}
 use mathlib.Core.Bool.{Bool, true, false}
 use mathlib.Core.List.{List}
-use Prim.Native.Nat.{ℕ, _*_, _≤_, _<_}
+use Prim.Native.Nat.{ℕ, _≤_, _<_}
 use native.Mathlib.Omega.{arith}
-use lib.ListN.{replicate}
 use lib.Dec.{T, T-not}
-use Rattle.rules.specs.Relations.{full}
 use Rattle.rules.specs.Descriptions.{Sheet, Reading, good, refused, read}
 use Rattle.rules.specs.Tables.{Table}
 use Rattle.rules.specs.Arrangements.{Arrangement}
-use Rattle.rules.specs.Closing.{closing}
-use Rattle.rules.specs.Search.{Order, End, found, none, tries, search, ended, ranOut, cap, Least, Nowhere}
+use Rattle.rules.specs.Search.{Order, End, found, none, tries, ended, ranOut, cap, Least, Nowhere}
 use Rattle.rules.specs.Calls.{wellFormed, answer, searching, arranged}
+use Rattle.rules.specs.Cases.{filled}
 use Rattle.rules.proofs.Tests.{true-T, T-decide}
 use Rattle.rules.proofs.Descriptions.{read-wellFormed}
 use Rattle.rules.proofs.Calls.{table-wellFormed, wellFormed-table, arrangement-arranged, arranged-arrangement}
@@ -24,16 +22,11 @@ use Rattle.boards.proofs.Made.{full-table}
 use Rattle.answers.specs.declared.Answer.{Answer}
 use Rattle.answers.specs.Answers.{outcome}
 use Rattle.answers.proofs.Outcomes.{says, counts, leaves}
-use Rattle.search.specs.Runs.{Searching}
 use Rattle.search.proofs.Searching.{search-refused, search-no-table, search-good}
-use Rattle.checking.specs.Runs.{Checking}
-use Rattle.demands.specs.Entries.{checks, Arranges}
+use Rattle.demands.specs.Entries.{Searching, Checking, checks}
+use Rattle.demands.specs.Sentences.{stated, Arranges}
 use Rattle.demands.proofs.Refusing.{call-gives, gives-good}
 use Rattle.checking.proofs.Checking.{by-test, check-good}
-
--- the search that 01 states
-abbrev pub stated : List ℕ → Sheet → List ℕ → End
-stated ord s t = search (closing s) ord (s .boards) t
 
 -- two numbers that differ are not both the answer's
 unlike : {X : Type 0} {m n k : ℕ} → m ≡ n → m ≡ k → (n ≡ k → ⊥) → X
@@ -149,14 +142,14 @@ module _ {ord : List ℕ} (order : Order ord) (ws : List ℕ) (s : Sheet) (means
 
 -- the same from the full table, where the budget does not run out
 module _ {ord : List ℕ} (order : Order ord) (ws : List ℕ) (s : Sheet) (means : read ws ≡ good s) (b : ℕ) (a : Answer) (w : List ℕ)
-    (call : Searching ord ws (replicate (s .boards * s .boards) full) b a w)
+    (call : Searching ord ws (filled (s .boards)) b a w)
   where
     pub full-finds : a .number ≡ 0 → Arrangement s w
-    full-finds z = finds-least order ws s means (replicate (s .boards * s .boards) full) (full-table (s .boards)) b a w call z .arrangement
+    full-finds z = finds-least order ws s means (filled (s .boards)) (full-table (s .boards)) b a w call z .arrangement
 
-    pub full-none : (a .number ≡ 9 → ⊥) → (a .number ≡ 8) ↔ Nowhere s (replicate (s .boards * s .boards) full)
+    pub full-none : (a .number ≡ 9 → ⊥) → (a .number ≡ 8) ↔ Nowhere s (filled (s .boards))
     full-none enough =
-        let t = replicate (s .boards * s .boards) full in
+        let t = filled (s .boards) in
         let table = full-table (s .boards) in
         finds-none order ws s means t table b a w call (ways-enough (search-ends ord ws s means t table b a w call) enough)
 

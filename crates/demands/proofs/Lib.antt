@@ -1,4 +1,5 @@
 -- The three demands, the laws behind them, and calls that only look like calls.
+pub mod Contracts
 pub mod Refusing
 pub mod Finding
 pub mod Ending

@@ -1,22 +1,61 @@
--- Calls that only look like calls: closings, searches and checks that the contract of the call excludes, each at a site of two boards. Assumes nothing.
-use mathlib.Core.Path.{_≡_, refl, sym, ap, _∙_}
-use mathlib.Core.List.{List, [], _∷_, flatMap, flatten}
-use Prim.Native.Nat.{ℕ}
+-- Calls that only look like calls, each refuted from the sentences of the demand that 01 says it breaks, at a site of two boards: whatever else a call may
+-- answer and leave, it does not meet the demand if it may answer so. Assumes nothing.
+use mathlib.Core.Path.{_≡_, refl, sym, ap, _∙_, subst}
+use mathlib.Core.Bool.{true, false}
+use mathlib.Core.Logic.{⊎-elim}
+use mathlib.Core.List.{List, [], _∷_, flatMap, flatten, List·Memᴰ·head, List·Memᴰ·cases-cons, List·Memᴰ·not-nil}
+use Prim.Native.Nat.{ℕ, _+_, _≤_}
 use native.Mathlib.Omega.{arith}
+use lib.Dec.{T}
 use lib.ListN.{getD}
 use Rattle.rules.specs.Relations.{relations, above, has, setTo, setOf, full, meet, join, complement, within, size, opposite, converse, singles, composed, compose}
 use Rattle.rules.specs.Expressions.{codes, code, follow, evaluate, expression}
-use Rattle.rules.specs.Descriptions.{relationLine, kindLine, section, numbersFit, offsetsFit, relationLines, kindLines, read}
-use Rattle.rules.specs.Tables.{emptied, total}
+use Rattle.rules.specs.Descriptions.{Sheet, good, relationLine, kindLine, section, numbersFit, offsetsFit, relationLines, kindLines, read}
+use Rattle.rules.specs.Tables.{Table, emptied, total}
 use Rattle.rules.specs.Closing.{reaches, agree, bound6, bound6′, bound7, bound7′, rules1, rules2, rules3, rules4, rules5, rules6, rules7, rules, strike, sweep, sweeps, closing}
-use Rattle.rules.specs.Search.{plainOrder, attempt, choose, places, search, cap}
-use Rattle.rules.specs.Calls.{refuse, succeed, wellFormed, close, searching, arranged, check}
+use Rattle.rules.specs.Search.{plainOrder, End, found, tries, attempt, choose, places, search}
+use Rattle.rules.specs.Stages.{Among, Stages}
+use Rattle.rules.specs.Calls.{wellFormed, arranged}
 use Rattle.rules.specs.Cases.{describe, filled, is, atOrAbove}
+use Rattle.rules.proofs.Tests.{true-T}
+use Rattle.rules.proofs.Descriptions.{read-wellFormed}
+use Rattle.rules.proofs.Largest.{closing-largest}
+use Rattle.rules.proofs.Search.{plain-order, least-unique, search-found}
+use Rattle.rules.proofs.Calls.{wellFormed-table, arrangement-arranged, arranged-arrangement}
+use Rattle.boards.proofs.Made.{full-table}
 use Rattle.answers.specs.declared.Answer.{Answer}
-use Rattle.answers.proofs.Outcomes.{says, counts, leaves}
-use Rattle.closing.specs.Runs.{Closing}
-use Rattle.search.specs.Runs.{Searching}
-use Rattle.checking.specs.Runs.{Checking}
+use Rattle.demands.specs.Runs.{Stage, Called}
+use Rattle.demands.specs.Sentences.{TableCall, SearchCall, CheckCall, Demand2, Demand3}
+
+-- ---- what the sentences say where a search or a closing succeeds
+
+-- Under demand 3 a closing whose largest table has no empty cell answers 0, leaves that table and counts what it struck.
+closed-by : {Closes : TableCall} → Demand3 Closes → (ws : List ℕ) (s : Sheet) → read ws ≡ good s → (t : List ℕ) → Table (s .boards) t → emptied (closing s t) ≡ false
+    → (a : Answer) (w : List ℕ) → Closes ws t a w → (a .number ≡ 0) × (w ≡ closing s t) × (a .count + total (closing s t) ≡ total t)
+closed-by d ws s means t table whole a w call =
+    let l = d .closing-contradictory ws s means t table a w call in
+    let same : closing s t ≡ l .0 = l .2 (closing s t) (closing-largest s t table) in
+    ⊎-elim
+    (λ z. let e : w ≡ closing s t = l .2 w (d .closing-largest-table ws s means t table a w call z) ∙ sym same in
+    (z, e, subst (λ (u : List ℕ). a .count + total u ≡ total t) e (d .closing-counted ws s means t table a w call z)))
+    (λ z. absurd (subst T (ap emptied (sym same) ∙ whole) (l .3 .0 z)))
+    (d .closing-answers ws s means t table a w call)
+
+-- Under demand 2 a search that is stated to find a table within the budget answers 0, leaves that table and counts the tries.
+found-by : {Searches : SearchCall} {Checks : CheckCall} → Demand2 plainOrder Searches Checks → (ws : List ℕ) (s : Sheet) → read ws ≡ good s → (t : List ℕ)
+    → Table (s .boards) t → (n : ℕ) (x : List ℕ) → search (closing s) plainOrder (s .boards) t ≡ found n x → (b : ℕ) → n ≤ b → (a : Answer) (w : List ℕ)
+    → Searches ws t b a w → (a .number ≡ 0) × (w ≡ x) × (a .count ≡ n)
+found-by d ws s means t table n x is b l a w call =
+    let least = search-found (read-wellFormed ws s means) (closing-largest s) plain-order t table n x is in
+    let few : tries (search (closing s) plainOrder (s .boards) t) ≤ b = subst (λ (e : End). tries e ≤ b) (sym is) l in
+    let z = d .first-is-found ws s means t table b a w call few x (least .arrangement) (least .inside) in
+    let within : a .number ≡ 9 → ⊥ = λ e. let y : _≡_ {A = ℕ} 0 9 = sym z ∙ e in omega arith in (
+      z,
+      least-unique (d .found-is-first ws s means t table b a w call z) least,
+      d .answer-carries-tries ws s means t table b a w call within ∙ ap tries is,
+    )
+
+-- ---- the sites
 
 -- 0 is at or above 1; and then also 1 is at or above 0
 abbrev first : List ℕ
@@ -43,98 +82,193 @@ zeroAbove = 1 ∷ 2 ∷ 4 ∷ 1 ∷ []
 abbrev bothAbove : List ℕ
 bothAbove = 1 ∷ 2 ∷ 2 ∷ 1 ∷ []
 
--- what the calls come to there
+-- what the three descriptions mean
+abbrev firstSheet : Sheet
+firstSheet = record { boards = 2; lines = record { p = 0; q = 1; allowed = 3 } ∷ []; kinds = [] }
+
+abbrev secondSheet : Sheet
+secondSheet = record { boards = 2; lines = record { p = 0; q = 1; allowed = 3 } ∷ record { p = 1; q = 0; allowed = 3 } ∷ []; kinds = [] }
+
+abbrev strictSheet : Sheet
+strictSheet = record { boards = 2; lines = record { p = 0; q = 1; allowed = 2 } ∷ []; kinds = [] }
+
+-- what the definitions come to there
 record Computed : Type 0 where
-  -- at the first stage 10 relations are struck, at the second 2
-  first-closes : close first (filled 2) ≡ succeed 10 between
-  second-closes : close second between ≡ succeed 2 oneBoard
-  -- the first arrangement is one board, after a try; with none allowed the budget runs out
-  first-found : searching plainOrder first (filled 2) 1 ≡ succeed 1 oneBoard
-  first-runs-out : searching plainOrder first (filled 2) 0 ≡ refuse 9 0 (filled 2)
-  -- where 0 is above 1 no try is made
-  strict-found : searching plainOrder strict (filled 2) 1 ≡ succeed 0 zeroAbove
-  first-accepted : check first oneBoard ≡ succeed 0 oneBoard
-  first-rejected : check first bothAbove ≡ refuse 10 0 bothAbove
+  first-means : read first ≡ good firstSheet
+  second-means : read second ≡ good secondSheet
+  strict-means : read strict ≡ good strictSheet
+  -- the largest closed tables, and the relations in them
+  first-closing : closing firstSheet (filled 2) ≡ between
+  second-closing : closing secondSheet between ≡ oneBoard
+  single-closing : closing secondSheet (filled 2) ≡ oneBoard
+  between-whole : emptied between ≡ false
+  one-board-whole : emptied oneBoard ≡ false
+  between-table : wellFormed 2 between ≡ true
+  between-total : total between ≡ 6
+  full-total : total (filled 2) ≡ 16
+  -- the first arrangement is one board, after a try; where 0 is above 1 no try is made
+  first-search : search (closing firstSheet) plainOrder 2 (filled 2) ≡ found 1 oneBoard
+  strict-search : search (closing strictSheet) plainOrder 2 (filled 2) ≡ found 0 zeroAbove
+  -- which of the tables are arrangements
+  one-board-table : wellFormed 2 oneBoard ≡ true
+  both-above-table : wellFormed 2 bothAbove ≡ true
+  one-board-arranged : arranged firstSheet oneBoard ≡ true
+  both-above-not : arranged firstSheet bothAbove ≡ false
 
 computed : Computed
 unfolding relations has setTo setOf full meet join complement within size opposite converse singles composed compose codes code
     follow evaluate expression relationLine kindLine section numbersFit offsetsFit relationLines kindLines read emptied
     total reaches agree bound6 bound6′ bound7 bound7′ rules1 rules2 rules3 rules4 rules5 rules6 rules7 rules strike sweep
-    sweeps closing attempt choose places search cap wellFormed close searching arranged check flatMap flatten
+    sweeps closing attempt choose places search wellFormed arranged flatMap flatten
 computed =
     record {
-      first-closes = refl;
-      second-closes = refl;
-      first-found = refl;
-      first-runs-out = refl;
-      strict-found = refl;
-      first-accepted = refl;
-      first-rejected = refl;
+      first-means = refl;
+      second-means = refl;
+      strict-means = refl;
+      first-closing = refl;
+      second-closing = refl;
+      single-closing = refl;
+      between-whole = refl;
+      one-board-whole = refl;
+      between-table = refl;
+      between-total = refl;
+      full-total = refl;
+      first-search = refl;
+      strict-search = refl;
+      one-board-table = refl;
+      both-above-table = refl;
+      one-board-arranged = refl;
+      both-above-not = refl;
     }
 
 -- what equal tables have in the cell (0, 1)
 cell01 : {u w : List ℕ} → u ≡ w → getD u 1 0 ≡ getD w 1 0
 cell01 e = ap (λ (w : List ℕ). getD w 1 0) e
 
--- ---- closings
+-- ---- demand 3
 
--- a closing that always says contradictory
-pub always-contradictory-excluded : (a : Answer) (w : List ℕ) → a .number ≡ 7 → Closing first (filled 2) a w → ⊥
-always-contradictory-excluded a w e call = let n : a .number ≡ 0 = says (call ∙ computed .first-closes) in omega arith
+module _ {Closes : TableCall} (demand : Demand3 Closes) where
+  -- the closing at the first stage, at the second, and at once
+  first-closed : (a : Answer) (w : List ℕ) → Closes first (filled 2) a w → (a .number ≡ 0) × (w ≡ between) × (a .count ≡ 10)
+  first-closed a w call =
+      let is = computed .first-closing in
+      let c =
+      closed-by demand first firstSheet (computed .first-means) (filled 2) (full-table 2) (ap emptied is ∙ computed .between-whole) a w call in
+      let counted : a .count + 6 ≡ 16 = ap (λ (n : ℕ). a .count + n) (sym (ap total is ∙ computed .between-total)) ∙ c .2 ∙ computed .full-total in
+      (c .0, c .1 ∙ is, omega arith)
 
--- a closing that does nothing, whatever it counts
-pub does-nothing-excluded : (a : Answer) → Closing first (filled 2) a (filled 2) → ⊥
-unfolding relations setTo setOf full
-does-nothing-excluded a call = let x : _≡_ {A = ℕ} 15 3 = cell01 (leaves (call ∙ computed .first-closes)) in omega arith
+  second-closed : (a : Answer) (w : List ℕ) → Closes second between a w → w ≡ oneBoard
+  second-closed a w call =
+      let is = computed .second-closing in
+      closed-by demand second secondSheet (computed .second-means) between (wellFormed-table 2 between (true-T (computed .between-table)))
+      (ap emptied is ∙ computed .one-board-whole) a w call .1
+      ∙ is
 
--- a closing that only pretends at the second stage, whatever it counts
-pub pretends-later-excluded : (a : Answer) → Closing second between a between → ⊥
-pretends-later-excluded a call = let x : _≡_ {A = ℕ} 3 1 = cell01 (leaves (call ∙ computed .second-closes)) in omega arith
+  single-closed : (a : Answer) (w : List ℕ) → Closes second (filled 2) a w → (a .number ≡ 0) × (w ≡ oneBoard)
+  single-closed a w call =
+      let is = computed .single-closing in
+      let c =
+      closed-by demand second secondSheet (computed .second-means) (filled 2) (full-table 2) (ap emptied is ∙ computed .one-board-whole) a w call in
+      (c .0, c .1 ∙ is)
 
--- invented strikes
-pub invented-strikes-excluded : (a : Answer) (w : List ℕ) → (a .count ≡ 10 → ⊥) → Closing first (filled 2) a w → ⊥
-invented-strikes-excluded a w f call = f (counts (call ∙ computed .first-closes))
+  -- a closing that always says contradictory
+  pub always-contradictory-excluded : (a : Answer) (w : List ℕ) → a .number ≡ 7 → Closes first (filled 2) a w → ⊥
+  always-contradictory-excluded a w e call = let n : a .number ≡ 0 = first-closed a w call .0 in omega arith
 
--- ---- searches
+  -- a closing that does nothing, whatever it answers
+  pub does-nothing-excluded : (a : Answer) → Closes first (filled 2) a (filled 2) → ⊥
+  unfolding relations setTo setOf full
+  does-nothing-excluded a call = let x : _≡_ {A = ℕ} 15 3 = cell01 (first-closed a (filled 2) call .1) in omega arith
 
--- a search that refuses everything, by whatever number
-pub refuses-everything-excluded : (a : Answer) (w : List ℕ) → (a .number ≡ 0 → ⊥) → Searching plainOrder first (filled 2) 1 a w → ⊥
-refuses-everything-excluded a w f call = f (says (call ∙ computed .first-found))
+  -- a closing that only pretends at the second stage, whatever it answers
+  pub pretends-later-excluded : (a : Answer) → Closes second between a between → ⊥
+  pretends-later-excluded a call = let x : _≡_ {A = ℕ} 3 1 = cell01 (second-closed a between call) in omega arith
 
--- a search that says none without looking
-pub none-without-looking-excluded : (a : Answer) (w : List ℕ) → a .number ≡ 8 → Searching plainOrder first (filled 2) 1 a w → ⊥
-none-without-looking-excluded a w e call = let n : a .number ≡ 0 = says (call ∙ computed .first-found) in omega arith
+  -- the same by the sentence of stages: a run that closes at the first stage and only pretends at the second, beside the single closing
+  pub pretends-in-stages-excluded : (a b c : Answer) (u : List ℕ) → Closes first (filled 2) a between → Closes second between b between
+      → Closes second (filled 2) c u → ⊥
+  unfolding Called Stages
+  pretends-in-stages-excluded a b c u earlier later single =
+      let one = single-closed c u single in
+      let w =
+      demand .stages-same-table whole (part ∷ whole ∷ []) (among, (all, all)) (filled 2) (full-table 2) c u single between _
+      (a, between, _, earlier, (b, between, false, later, (refl, refl), refl), refl) (one .0) in
+      let x : _≡_ {A = ℕ} 3 1 = cell01 (w ∙ one .1) in omega arith
+    where
+      part : Stage
+      part = record { words = first; sheet = firstSheet; means = computed .first-means }
 
--- a search that always says 'all one board', whatever it counts: here 0 is above 1
-pub all-one-board-excluded : (a : Answer) (w : List ℕ) → w ≡ oneBoard → Searching plainOrder strict (filled 2) 1 a w → ⊥
-all-one-board-excluded a w e call = let x : _≡_ {A = ℕ} 1 2 = cell01 (sym e ∙ leaves (call ∙ computed .strict-found)) in omega arith
+      whole : Stage
+      whole = record { words = second; sheet = secondSheet; means = computed .second-means }
 
--- a search that reads "at or above" as "above", whatever it counts: one board comes first
-pub at-or-above-as-above-excluded : (a : Answer) (w : List ℕ) → w ≡ zeroAbove → Searching plainOrder first (filled 2) 1 a w → ⊥
-at-or-above-as-above-excluded a w e call = let x : _≡_ {A = ℕ} 2 1 = cell01 (sym e ∙ leaves (call ∙ computed .first-found)) in omega arith
+      all : Among secondSheet secondSheet
+      all = record { boards = refl; lines = λ l m. m; kinds = λ k m. m }
 
--- invented tries
-pub invented-tries-excluded : (a : Answer) (w : List ℕ) → (a .count ≡ 1 → ⊥) → Searching plainOrder first (filled 2) 1 a w → ⊥
-invented-tries-excluded a w f call = f (counts (call ∙ computed .first-found))
+      among : Among firstSheet secondSheet
+      among = record { boards = refl; lines = λ l m. ⊎-elim (λ e. List·Memᴰ·head e) (λ n. absurd (List·Memᴰ·not-nil n)) (List·Memᴰ·cases-cons m); kinds = λ k m. m }
 
--- tries beyond the budget: anything but 9 where none is allowed
-pub tries-beyond-budget-excluded : (a : Answer) (w : List ℕ) → (a .number ≡ 9 → ⊥) → Searching plainOrder first (filled 2) 0 a w → ⊥
-tries-beyond-budget-excluded a w f call = f (says (call ∙ computed .first-runs-out))
+  -- invented strikes
+  pub invented-strikes-excluded : (a : Answer) (w : List ℕ) → (a .count ≡ 10 → ⊥) → Closes first (filled 2) a w → ⊥
+  invented-strikes-excluded a w f call = f (first-closed a w call .2)
 
--- a budget said to be spent when it is not
-pub early-end-excluded : (a : Answer) (w : List ℕ) → a .number ≡ 9 → Searching plainOrder first (filled 2) 1 a w → ⊥
-early-end-excluded a w e call = let n : a .number ≡ 0 = says (call ∙ computed .first-found) in omega arith
+-- ---- demand 2
 
--- ---- checks
+module _ {Searches : SearchCall} {Checks : CheckCall} (demand : Demand2 plainOrder Searches Checks) where
+  first-found : (a : Answer) (w : List ℕ) → Searches first (filled 2) 1 a w → (a .number ≡ 0) × (w ≡ oneBoard) × (a .count ≡ 1)
+  first-found = found-by demand first firstSheet (computed .first-means) (filled 2) (full-table 2) 1 oneBoard (computed .first-search) 1 (omega arith)
 
--- a check that accepts everything: here each board would be above the other
-pub accepts-everything-excluded : (a : Answer) → a .number ≡ 0 → Checking first bothAbove a → ⊥
-accepts-everything-excluded a e call = let n : a .number ≡ 10 = says (call ∙ computed .first-rejected) in omega arith
+  strict-found : (a : Answer) (w : List ℕ) → Searches strict (filled 2) 1 a w → (a .number ≡ 0) × (w ≡ zeroAbove) × (a .count ≡ 0)
+  strict-found = found-by demand strict strictSheet (computed .strict-means) (filled 2) (full-table 2) 0 zeroAbove (computed .strict-search) 1 (omega arith)
 
--- a check that accepts nothing
-pub accepts-nothing-excluded : (a : Answer) → a .number ≡ 10 → Checking first oneBoard a → ⊥
-accepts-nothing-excluded a e call = let n : a .number ≡ 0 = says (call ∙ computed .first-accepted) in omega arith
+  -- a search that refuses everything, by whatever number
+  pub refuses-everything-excluded : (a : Answer) (w : List ℕ) → (a .number ≡ 0 → ⊥) → Searches first (filled 2) 1 a w → ⊥
+  refuses-everything-excluded a w f call = f (first-found a w call .0)
 
--- a check with one constant answer, whatever it is
-pub constant-answer-excluded : (a : Answer) → Checking first bothAbove a → Checking first oneBoard a → ⊥
-constant-answer-excluded a rejected accepted = accepts-everything-excluded a (says (accepted ∙ computed .first-accepted)) rejected
+  -- a search that says none without looking
+  pub none-without-looking-excluded : (a : Answer) (w : List ℕ) → a .number ≡ 8 → Searches first (filled 2) 1 a w → ⊥
+  none-without-looking-excluded a w e call = let n : a .number ≡ 0 = first-found a w call .0 in omega arith
+
+  -- a search that always says 'all one board', whatever it counts: here 0 is above 1
+  pub all-one-board-excluded : (a : Answer) (w : List ℕ) → w ≡ oneBoard → Searches strict (filled 2) 1 a w → ⊥
+  all-one-board-excluded a w e call = let x : _≡_ {A = ℕ} 1 2 = cell01 (sym e ∙ strict-found a w call .1) in omega arith
+
+  -- a search that reads "at or above" as "above", whatever it counts: one board comes first
+  pub at-or-above-as-above-excluded : (a : Answer) (w : List ℕ) → w ≡ zeroAbove → Searches first (filled 2) 1 a w → ⊥
+  at-or-above-as-above-excluded a w e call = let x : _≡_ {A = ℕ} 2 1 = cell01 (sym e ∙ first-found a w call .1) in omega arith
+
+  -- invented tries
+  pub invented-tries-excluded : (a : Answer) (w : List ℕ) → (a .count ≡ 1 → ⊥) → Searches first (filled 2) 1 a w → ⊥
+  invented-tries-excluded a w f call = f (first-found a w call .2)
+
+  -- tries beyond the budget: anything but 9 where none is allowed
+  pub tries-beyond-budget-excluded : (a : Answer) (w : List ℕ) → (a .number ≡ 9 → ⊥) → Searches first (filled 2) 0 a w → ⊥
+  tries-beyond-budget-excluded a w f call =
+      let needed : tries (search (closing firstSheet) plainOrder 2 (filled 2)) ≡ 1 = ap tries (computed .first-search) in
+      f (demand .ran-out-exactly first firstSheet (computed .first-means) (filled 2) (full-table 2) 0 a w call .1 (omega arith))
+
+  -- a budget said to be spent when it is not
+  pub early-end-excluded : (a : Answer) (w : List ℕ) → a .number ≡ 9 → Searches first (filled 2) 1 a w → ⊥
+  early-end-excluded a w e call = let n : a .number ≡ 0 = first-found a w call .0 in omega arith
+
+  -- a check that accepts everything: here each board would be above the other
+  pub accepts-everything-excluded : (a : Answer) → a .number ≡ 0 → Checks first bothAbove a → ⊥
+  accepts-everything-excluded a e call =
+      let f = read-wellFormed first firstSheet (computed .first-means) in
+      let n : a .number ≡ 10 =
+      demand .check-rejects-exactly first firstSheet (computed .first-means) bothAbove (wellFormed-table 2 bothAbove (true-T (computed .both-above-table))) a call .1
+      (λ r. subst T (computed .both-above-not) (arrangement-arranged f r)) in
+      omega arith
+
+  one-board-accepted : (a : Answer) → Checks first oneBoard a → a .number ≡ 0
+  one-board-accepted a call =
+      let f = read-wellFormed first firstSheet (computed .first-means) in
+      demand .check-accepts-exactly first oneBoard a call .1
+      (firstSheet, computed .first-means, arranged-arrangement f (wellFormed-table 2 oneBoard (true-T (computed .one-board-table))) (true-T (computed .one-board-arranged)))
+
+  -- a check that accepts nothing
+  pub accepts-nothing-excluded : (a : Answer) → a .number ≡ 10 → Checks first oneBoard a → ⊥
+  accepts-nothing-excluded a e call = let n : a .number ≡ 0 = one-board-accepted a call in omega arith
+
+  -- a check with one constant answer, whatever it is
+  pub constant-answer-excluded : (a : Answer) → Checks first bothAbove a → Checks first oneBoard a → ⊥
+  constant-answer-excluded a rejected accepted = accepts-everything-excluded a (one-board-accepted a accepted) rejected

@@ -1,13 +1,13 @@
 -- Any two answers that a contract of this crate permits are equal. Assumes nothing.
-use mathlib.Core.Path.{_≡_}
-use mathlib.Core.List.{List}
-use Prim.Native.Nat.{ℕ}
-use Rattle.rules.specs.Expressions.{expression}
-use Rattle.expressions.specs.declared.Expression.{Expression}
-use Rattle.expressions.specs.Found.{expressionFound}
+use mathlib.Core.Path.{sym, _∙_}
+use Rattle.contracts.specs.Contracts.{OneResult}
+use Rattle.expressions.proofs.evaluate.Kinds as evaluate-kinds
+use Rattle.expressions.proofs.evaluate.Reads as evaluate
+use Rattle.expressions.proofs.words.wide.Kinds as wide-kinds
+use Rattle.expressions.proofs.words.wide.Reads as wide
 
-pub evaluate-determined : (ws : List ℕ) (r s : Expression) → r ≡ expressionFound (expression ws) → s ≡ expressionFound (expression ws) → r ≡ s
-evaluate-determined ws r s p q = cc
+pub evaluate-determined : OneResult 1 evaluate-kinds.ps evaluate-kinds.r evaluate.Asked evaluate.Learnt
+evaluate-determined κs a asked x y d e p q = p ∙ sym q
 
-pub wide-determined : (w m n : ℕ) → m ≡ w → n ≡ w → m ≡ n
-wide-determined w m n p q = cc
+pub wide-determined : OneResult 0 wide-kinds.ps wide-kinds.r wide.Asked wide.Learnt
+wide-determined κs a asked x y d e p q = p ∙ sym q

@@ -1,9 +1,8 @@
 -- Any two answers that the contract of `read_header` permits are equal. Assumes nothing.
-use mathlib.Core.Path.{_≡_}
-use mathlib.Core.List.{List}
-use Prim.Native.Nat.{ℕ}
-use Rattle.headers.specs.declared.HeaderFound.{HeaderFound}
-use Rattle.headers.specs.Found.{headerFound}
+use mathlib.Core.Path.{sym, _∙_}
+use Rattle.contracts.specs.Contracts.{OneResult}
+use Rattle.headers.proofs.read_header.Kinds as read-header-kinds
+use Rattle.headers.proofs.read_header.Reads as read-header
 
-pub read-header-determined : (ws : List ℕ) (r s : HeaderFound) → r ≡ headerFound ws → s ≡ headerFound ws → r ≡ s
-read-header-determined ws r s p q = cc
+pub read-header-determined : OneResult 1 read-header-kinds.ps read-header-kinds.r read-header.Asked read-header.Learnt
+read-header-determined κs a asked x y d e p q = p ∙ sym q

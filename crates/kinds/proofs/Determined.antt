@@ -1,19 +1,18 @@
 -- Any two answers that a contract of this crate permits are equal: each contract gives the answer as a function of the words. Assumes nothing.
-use mathlib.Core.Path.{_≡_}
-use mathlib.Core.List.{List}
-use Prim.Native.Nat.{ℕ}
-use lib.ListN.{getD}
-use Rattle.rules.specs.Descriptions.{kindLine}
-use Rattle.kinds.specs.declared.KindLine.{KindLine}
-use Rattle.kinds.specs.declared.KindFound.{KindFound}
-use Rattle.kinds.specs.Found.{kindFound, kindFront}
+use mathlib.Core.Path.{sym, _∙_}
+use Rattle.contracts.specs.Contracts.{OneResult}
+use Rattle.kinds.proofs.kind_line.Kinds as kind-line-kinds
+use Rattle.kinds.proofs.kind_line.Reads as kind-line
+use Rattle.kinds.proofs.kind_front.Kinds as kind-front-kinds
+use Rattle.kinds.proofs.kind_front.Reads as kind-front
+use Rattle.kinds.proofs.way.Kinds as way-kinds
+use Rattle.kinds.proofs.way.Reads as way
 
-module _ (ws : List ℕ) where
-  pub kind-line-determined : (v : ℕ) (r s : KindFound) → r ≡ kindFound (kindLine v ws) → s ≡ kindFound (kindLine v ws) → r ≡ s
-  kind-line-determined v r s p q = cc
+pub kind-line-determined : OneResult 1 kind-line-kinds.ps kind-line-kinds.r kind-line.Asked kind-line.Learnt
+kind-line-determined κs a asked x y d e p q = p ∙ sym q
 
-  pub kind-front-determined : (k l : KindLine) → k ≡ kindFront ws → l ≡ kindFront ws → k ≡ l
-  kind-front-determined k l p q = cc
+pub kind-front-determined : OneResult 1 kind-front-kinds.ps kind-front-kinds.r kind-front.Asked kind-front.Learnt
+kind-front-determined κs a asked x y d e p q = p ∙ sym q
 
-  pub way-determined : (i y z : ℕ) → y ≡ getD ws i 0 → z ≡ getD ws i 0 → y ≡ z
-  way-determined i y z p q = cc
+pub way-determined : OneResult 1 way-kinds.ps way-kinds.r way.Asked way.Learnt
+way-determined κs a asked x y d e p q = p ∙ sym q

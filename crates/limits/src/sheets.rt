@@ -1,9 +1,9 @@
 // Descriptions at the limits.
 // A site of one board, and nothing said of it.
-pub const ONE_BOARD: [u16; 6] = [1, 0, 0, 6, 6, 6];
+pub(crate) const ONE_BOARD: [u16; 6] = [1, 0, 0, 6, 6, 6];
 
 // A relation line whose expression has 15 words, and one with 16: not, again and again, and same.
-pub const FIFTEEN_WORDS: [u16; 24] = [
+pub(crate) const FIFTEEN_WORDS: [u16; 24] = [
     1,
     1,
     0,
@@ -30,7 +30,7 @@ pub const FIFTEEN_WORDS: [u16; 24] = [
     0,
 ];
 
-pub const SIXTEEN_WORDS: [u16; 25] = [
+pub(crate) const SIXTEEN_WORDS: [u16; 25] = [
     1,
     1,
     0,
@@ -59,18 +59,37 @@ pub const SIXTEEN_WORDS: [u16; 25] = [
 ];
 
 // A relation line with no expression.
-pub const NO_WORDS: [u16; 9] = [1, 1, 0, 6, 9, 9, 0, 0, 0];
+pub(crate) const NO_WORDS: [u16; 9] = [1, 1, 0, 6, 9, 9, 0, 0, 0];
 
 // A panel of 8 ways, of 9, and of none.
-pub const EIGHT_WAYS: [u16; 17] = [9, 0, 1, 6, 6, 17, 0, 7, 8, 1, 2, 3, 4, 5, 6, 7, 8];
+pub(crate) const EIGHT_WAYS: [u16; 17] = [9, 0, 1, 6, 6, 17, 0, 7, 8, 1, 2, 3, 4, 5, 6, 7, 8];
 
-pub const NINE_WAYS: [u16; 18] = [10, 0, 1, 6, 6, 18, 0, 7, 9, 1, 2, 3, 4, 5, 6, 7, 8, 9];
+pub(crate) const NINE_WAYS: [u16; 18] = [10, 0, 1, 6, 6, 18, 0, 7, 9, 1, 2, 3, 4, 5, 6, 7, 8, 9];
 
-pub const NO_WAYS: [u16; 9] = [1, 0, 1, 6, 6, 9, 0, 7, 0];
+pub(crate) const NO_WAYS: [u16; 9] = [1, 0, 1, 6, 6, 9, 0, 7, 0];
 
 // The longest description: this header, then 128 relation lines alike, then 16 kind lines alike.
-pub const HEADER: [u16; 6] = [16, 128, 16, 6, 2310, 2486];
+pub(crate) const HEADER: [u16; 6] = [16, 128, 16, 6, 2310, 2486];
 
-pub const RELATION_LINE: [u16; 18] = [15, 15, 15, 4, 0, 4, 1, 4, 2, 4, 3, 4, 0, 4, 1, 4, 2, 3];
+pub(crate) const RELATION_LINE: [u16; 18] = [
+    15,
+    15,
+    15,
+    4,
+    0,
+    4,
+    1,
+    4,
+    2,
+    4,
+    3,
+    4,
+    0,
+    4,
+    1,
+    4,
+    2,
+    3,
+];
 
-pub const KIND_LINE: [u16; 11] = [15, 65535, 8, 0, 1, 2, 3, 4, 5, 6, 7];
+pub(crate) const KIND_LINE: [u16; 11] = [15, 65535, 8, 0, 1, 2, 3, 4, 5, 6, 7];

@@ -1,11 +1,8 @@
 -- Any two answers that the contract of `relation_line` permits are equal. Assumes nothing.
-use mathlib.Core.Path.{_≡_}
-use mathlib.Core.List.{List}
-use Prim.Native.Nat.{ℕ}
-use Rattle.rules.specs.Descriptions.{relationLine}
-use Rattle.lines.specs.declared.RelationFound.{RelationFound}
-use Rattle.lines.specs.Found.{relationFound}
+use mathlib.Core.Path.{sym, _∙_}
+use Rattle.contracts.specs.Contracts.{OneResult}
+use Rattle.lines.proofs.relation_line.Kinds as relation-line-kinds
+use Rattle.lines.proofs.relation_line.Reads as relation-line
 
-pub relation-line-determined : (v : ℕ) (ws : List ℕ) (r s : RelationFound) → r ≡ relationFound (relationLine v ws) → s ≡ relationFound (relationLine v ws)
-    → r ≡ s
-relation-line-determined v ws r s p q = cc
+pub relation-line-determined : OneResult 1 relation-line-kinds.ps relation-line-kinds.r relation-line.Asked relation-line.Learnt
+relation-line-determined κs a asked x y d e p q = p ∙ sym q

@@ -1,12 +1,8 @@
 -- Any two outcomes that the contract of `feeds` permits answer one number where they leave one table. Assumes nothing.
-use mathlib.Core.Path.{_≡_}
-use mathlib.Core.List.{List}
-use Prim.Native.Nat.{ℕ}
-use Rattle.rules.specs.Descriptions.{KindLine}
-use Rattle.rules.specs.Closing.{rule6, boardsOf}
-use Rattle.passes.specs.Passes.{Pass, Quiet}
+use Rattle.contracts.specs.Contracts.{OneResultFor}
 use Rattle.passes.proofs.Passes.{kept-determined}
+use Rattle.panels.proofs.feeds.Kinds as feeds-kinds
+use Rattle.panels.proofs.feeds.Reads as feeds
 
-pub feeds-counted : (v : ℕ) (k : KindLine) (t w : List ℕ) (m n : ℕ) → Pass (Quiet v) v (boardsOf v (rule6 v k)) t 0 w m
-    → Pass (Quiet v) v (boardsOf v (rule6 v k)) t 0 w n → m ≡ n
-feeds-counted v k t w m n f g = kept-determined (f .kept) (g .kept)
+pub feeds-counted : OneResultFor 2 feeds-kinds.ps feeds-kinds.r feeds.Asked feeds.Learnt (λ κs e. e .1 .1 .1 .0 .now)
+feeds-counted κs a asked x y d e p q = λ same. kept-determined same (p .kept) (q .kept)

@@ -197,8 +197,8 @@ module _ {v : ℕ} where
   -- ---- what is determined
 
   -- how many were struck is fixed by what is left
-  pub kept-determined : {rs : List Rule} {t w : List ℕ} {a b c : ℕ} → Kept v rs t a w b → Kept v rs t a w c → b ≡ c
-  kept-determined f g = let i = f .counted in let j = g .counted in omega arith
+  pub kept-determined : {rs : List Rule} {t u w : List ℕ} {a b c : ℕ} → u ≡ w → Kept v rs t a u b → Kept v rs t a w c → b ≡ c
+  kept-determined e f g = let i = f .counted in let j = g .counted in let same = ap total e in omega arith
 
   -- by bounds that stay, what is left is fixed too: the largest table inside t in which the rules strike nothing
   pub once-determined : {rs : List Rule} {t u w : List ℕ} {a b c : ℕ} → Once v rs t a u b → Once v rs t a w c → (u ≡ w) × (b ≡ c)
@@ -206,7 +206,7 @@ module _ {v : ℕ} where
       let e : u ≡ w =
       inside-antisym (f .kept .table) (g .kept .table) (g .kept .keeps u (f .kept .inside) (f .held u (inside-refl u)))
       (f .kept .keeps w (g .kept .inside) (g .held w (inside-refl w))) in
-      (e, kept-determined (subst (λ (x : List ℕ). Kept v rs t a x b) e (f .kept)) (g .kept))
+      (e, kept-determined e (f .kept) (g .kept))
 
   -- ---- a site that is not too large: its places, its counts
 

@@ -1,5 +1,5 @@
 // What two sets of relations compose to: that of x and y stands at SETS times x plus y.
-pub const COMPOSITIONS: [u8; 256] = [
+pub(crate) const COMPOSITIONS: [u8; 256] = [
     0, // nothing with nothing
     0, // nothing with E
     0, // nothing with A

@@ -23,23 +23,11 @@ const RELATIONS: usize = 4;
 const SETS: usize = 16;
 
 // The sixteen compositions of single relations: what p to r may be, given p to q (row) and q to r (column).
-const SINGLES: [u8; 16] = [
-    1, // E with E
-    2, // E with A
-    4, // E with B
-    8, // E with S
-    2, // A with E
-    2, // A with A
-    7, // A with B
-    10, // A with S
-    4, // B with E
-    15, // B with A
-    4, // B with B
-    8, // B with S
-    8, // S with E
-    8, // S with A
-    12, // S with B
-    15, // S with S
+const SINGLES: [[u8; RELATIONS]; RELATIONS] = [
+    [1, 2, 4, 8], // E
+    [2, 2, 7, 10], // A
+    [4, 15, 4, 8], // B
+    [8, 8, 12, 15], // S
 ];
 
 // Each set the other way round: A and B exchanged.
@@ -69,11 +57,11 @@ fn wide(x: u8) -> usize
 }
 
 // What two single relations, given by their numbers, compose to.
-pub fn composed(r: usize, s: usize) -> u8
+fn composed(r: usize, s: usize) -> u8
     requires { ⌜ (r < relations) × (s < relations) ⌝ }
     ensures { λ z. ⌜ z ≡ composed r s ⌝ }
 {
-    SINGLES[RELATIONS * r + s]
+    SINGLES[r][s]
 }
 
 // The compositions of all pairs of sets. They are lent to `compose`, so that a loop lays them out once.

@@ -106,7 +106,7 @@ unfolding total size
 total-most [] = omega arith
 total-most (x ∷ xs) = omega (arith, count-most relations (has x), total-most xs, mul-suc relations (length xs))
 
-total-least : (t : List ℕ) → ((k : ℕ) → getD t k 0 < setLimit) → T (not (emptied t)) → length t ≤ total t
+pub total-least : (t : List ℕ) → ((k : ℕ) → getD t k 0 < setLimit) → T (not (emptied t)) → length t ≤ total t
 unfolding total emptied
 total-least [] h e = omega arith
 total-least (x ∷ xs) h e = go (eqb x 0) refl e (λ g. total-least xs (λ k. h (suc k)) g)

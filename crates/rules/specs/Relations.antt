@@ -122,20 +122,20 @@ unfoldable pub converse : ℕ → ℕ
 converse x = setOf (λ r. has x (opposite r))
 
 -- The sixteen compositions of single relations: what p to r may be, given p to q (row) and q to r (column).
-unfoldable pub singles : List ℕ
+unfoldable pub singles : List (List ℕ)
 singles =
     -- with E, A, B, S: E
-    1 ∷ 2 ∷ 4 ∷ 8
+    (1 ∷ 2 ∷ 4 ∷ 8 ∷ [])
     -- A
-    ∷ 2 ∷ 2 ∷ 7 ∷ 10
+    ∷ (2 ∷ 2 ∷ 7 ∷ 10 ∷ [])
     -- B
-    ∷ 4 ∷ 15 ∷ 4 ∷ 8
+    ∷ (4 ∷ 15 ∷ 4 ∷ 8 ∷ [])
     -- S
-    ∷ 8 ∷ 8 ∷ 12 ∷ 15
+    ∷ (8 ∷ 8 ∷ 12 ∷ 15 ∷ [])
     ∷ []
 
 unfoldable pub composed : ℕ → ℕ → ℕ
-composed r s = getD singles (relations * r + s) 0
+composed r s = getD (getD singles r []) s 0
 
 -- Two sets compose to the union over all pairs of members.
 unfoldable pub compose : ℕ → ℕ → ℕ

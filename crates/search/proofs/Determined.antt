@@ -1,10 +1,12 @@
--- Any two answers and tables that the contract of `search` permits are equal, in any order. Assumes nothing.
-use mathlib.Core.Path.{_≡_, sym, _∙_}
-use mathlib.Core.List.{List}
-use Prim.Native.Nat.{ℕ}
-use Rattle.answers.specs.declared.Answer.{Answer}
+-- `search` takes whatever it is lent, and any two answers and tables that its contract permits are equal. Assumes nothing.
+use mathlib.Core.Path.{sym, _∙_}
+use Rattle.contracts.specs.Contracts.{AsksNothing, OneOutcome}
 use Rattle.answers.proofs.Outcomes.{outcome-determined}
-use Rattle.search.specs.Runs.{Searching}
+use Rattle.search.proofs.search.Kinds as search-kinds
+use Rattle.search.proofs.search.Reads as search
 
-pub search-determined : (ord ws t : List ℕ) (n : ℕ) (a b : Answer) (u w : List ℕ) → Searching ord ws t n a u → Searching ord ws t n b w → (a ≡ b) × (u ≡ w)
-search-determined ord ws t n a b u w p q = outcome-determined a b u w (p ∙ sym q)
+pub search-asks-nothing : AsksNothing 2 search-kinds.ps search.Asked
+search-asks-nothing κs a = tt
+
+pub search-determined : OneOutcome 2 search-kinds.ps search-kinds.r search.Asked search.Learnt (λ κs e. e .1 .0 .now)
+search-determined κs a asked x y d e p q = outcome-determined x y (d .1 .0 .now) (e .1 .0 .now) (p ∙ sym q)

@@ -1,3 +1,2 @@
 -- What the functions of this crate promise, and calls of the search.
 pub mod Rooms
-pub mod Runs

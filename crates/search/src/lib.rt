@@ -16,9 +16,9 @@ use tries::Ended;
 use tries::hunt;
 
 // The refusals of a search: there is no arrangement inside the table; the budget ran out.
-pub const NOWHERE: u8 = 8;
+const NOWHERE: u8 = 8;
 
-pub const RAN_OUT: u8 = 9;
+const RAN_OUT: u8 = 9;
 
 // The most pairs of boards.
 const MOST_PAIRS: usize = MOST_BOARDS * (MOST_BOARDS - 1) / 2;

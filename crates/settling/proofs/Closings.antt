@@ -1,9 +1,9 @@
 -- A closing, from what its parts strike: the largest closed table, counted; or the largest one has an empty cell. And what the call answers and leaves
 -- by that. Assumes nothing.
-use mathlib.Core.Path.{_≡_, refl, sym, ap, subst}
+use mathlib.Core.Path.{_≡_, refl, sym, subst}
 use mathlib.Core.Bool.{not}
 use mathlib.Core.List.{List}
-use Prim.Native.Nat.{ℕ, _+_, _*_, _-_}
+use Prim.Native.Nat.{ℕ, _+_, _*_}
 use native.Mathlib.Nat.{zero-add}
 use native.Mathlib.Omega.{arith}
 use lib.Dec.{T, eqb}
@@ -13,7 +13,6 @@ use Rattle.rules.specs.Tables.{Table, Inside, at, emptied, total, upTo}
 use Rattle.rules.specs.Arrangements.{way}
 use Rattle.rules.specs.Closed.{Closed}
 use Rattle.rules.specs.Closing.{Rule, Idle, lies, rules1, rules2, rules4, rules5, rules6, rules7, rules, closing}
-use Rattle.rules.specs.Calls.{close}
 use Rattle.rules.proofs.Sets.{lies-trans}
 use Rattle.rules.proofs.Members.{All, all-one, all-over, all-append, append-left, append-right}
 use Rattle.rules.proofs.Inside.{inside-trans}

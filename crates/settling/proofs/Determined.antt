@@ -8,19 +8,32 @@ use Rattle.rules.specs.Descriptions.{Sheet, good, read}
 use Rattle.rules.specs.Tables.{Table, emptied, total}
 use Rattle.rules.specs.Closing.{closing}
 use Rattle.rules.proofs.Largest.{closing-largest, largest-unique}
+use Rattle.contracts.specs.Contracts.{OfTwo}
+use Rattle.passes.specs.Passes.{Ready}
+use Rattle.headers.specs.declared.Header.{Header}
+use Rattle.headers.specs.declared.HeaderFound.the-variants.{Good}
+use Rattle.sheet.specs.Found.{descriptionFound}
+use Rattle.sheet.proofs.Described.{described}
 use Rattle.sweeps.specs.declared.Swept.{Swept}
 use Rattle.sweeps.specs.declared.Swept.the-variants.{Struck, Emptied}
 use Rattle.settling.specs.Closes.{Closes, closes, ClosesUnder}
+use Rattle.settling.proofs.settle.Kinds as settle-kinds
+use Rattle.settling.proofs.settle.Reads as settle
+use Rattle.settling.proofs.settle_again.Kinds as again-kinds
+use Rattle.settling.proofs.settle_again.Reads as again
 
 -- the result, and the cells unless one was emptied
-pub settle-determined : (ws : List ℕ) (s : Sheet) → read ws ≡ good s → (t : List ℕ) → Table (s .boards) t → (u w : List ℕ) (q r : Swept)
-    → ClosesUnder ws t u q → ClosesUnder ws t w r → (q ≡ r) × ((q ≡ Emptied → ⊥) → u ≡ w)
-settle-determined ws s means t h u w q r f g = by q r (f s means) (g s means)
+abbrev Fixed : Swept → Swept → List ℕ → List ℕ → Type 0
+Fixed q r u w = (q ≡ r) × ((q ≡ Emptied → ⊥) → u ≡ w)
+
+closes-determined : (ws : List ℕ) (s : Sheet) → read ws ≡ good s → (t : List ℕ) → Table (s .boards) t → (u w : List ℕ) (q r : Swept)
+    → ClosesUnder ws t u q → ClosesUnder ws t w r → Fixed q r u w
+closes-determined ws s means t h u w q r f g = by q r (f s means) (g s means)
   where
     filled : {x : List ℕ} {n : ℕ} → Closes s t x n → T (emptied (closing s t)) → ⊥
     filled {x} k e = T-not (emptied x) (k .filled) (subst (λ (y : List ℕ). T (emptied y)) (largest-unique (closing-largest s t h) (k .largest)) e)
 
-    by : (q r : Swept) → closes s t u q → closes s t w r → (q ≡ r) × ((q ≡ Emptied → ⊥) → u ≡ w)
+    by : (q r : Swept) → closes s t u q → closes s t w r → Fixed q r u w
     by (Struck m) (Struck n) k l =
         let e : u ≡ w = largest-unique (k .largest) (l .largest) in
         let i : m + total u ≡ total t = k .counted in
@@ -31,3 +44,19 @@ settle-determined ws s means t h u w q r f g = by q r (f s means) (g s means)
     by (Struck m) Emptied k e = absurd (filled k e)
     by Emptied (Struck n) e l = absurd (filled l e)
     by Emptied Emptied d e = (refl, λ z. absurd (z refl))
+
+-- of a description whose header this is, and a table of as many boards
+described-determined : (h : Header) (ws t : List ℕ) → Good h ≡ descriptionFound ws → Ready (h .boards) t → (u w : List ℕ) (q r : Swept) → ClosesUnder ws t u q
+    → ClosesUnder ws t w r → Fixed q r u w
+described-determined h ws t header ready u w q r =
+    let d = described ws h header in
+    closes-determined ws (d .0) (d .1 .means) t (subst (λ (n : ℕ). Table n t) (d .1 .boards) (ready .table)) u w q r
+
+pub settle-determined : OfTwo 2 settle-kinds.ps settle-kinds.r settle.Asked settle.Learnt (λ κs x y d e. Fixed x y (d .1 .1 .0 .now) (e .1 .1 .0 .now))
+settle-determined κs a asked x y d e =
+    described-determined (a .0) (a .1 .0 .now) (a .1 .1 .0 .now) (asked .0) (asked .1) (d .1 .1 .0 .now) (e .1 .1 .0 .now) x y
+
+pub settle-again-determined : OfTwo 2 again-kinds.ps again-kinds.r again.Asked again.Learnt
+    (λ κs x y d e. Fixed x y (d .1 .1 .0 .now) (e .1 .1 .0 .now))
+settle-again-determined κs a asked x y d e =
+    described-determined (a .0) (a .1 .0 .now) (a .1 .1 .0 .now) (asked .0) (asked .1) (d .1 .1 .0 .now) (e .1 .1 .0 .now) x y

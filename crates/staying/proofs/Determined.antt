@@ -1,22 +1,18 @@
 -- Any two outcomes that a contract of this crate permits are equal. Assumes nothing.
-use mathlib.Core.Path.{_≡_}
-use mathlib.Core.List.{List}
-use Prim.Native.Nat.{ℕ}
-use Rattle.rules.specs.Descriptions.{RelationLine, good, relationLine, section}
-use Rattle.rules.specs.Closing.{rules1, rules4, rule5}
-use Rattle.passes.specs.Passes.{Once}
+use Rattle.contracts.specs.Contracts.{OneOutcome}
 use Rattle.passes.proofs.Passes.{once-determined}
-use Rattle.kinds.specs.Panels.{panel}
-use Rattle.kinds.specs.Sections.{WithLines}
+use Rattle.staying.proofs.diagonal.Kinds as diagonal-kinds
+use Rattle.staying.proofs.diagonal.Reads as diagonal
+use Rattle.staying.proofs.relation_lines.Kinds as relation-lines-kinds
+use Rattle.staying.proofs.relation_lines.Reads as relation-lines
+use Rattle.staying.proofs.spread.Kinds as spread-kinds
+use Rattle.staying.proofs.spread.Reads as spread
 
-module _ (v : ℕ) (t u w : List ℕ) (m n : ℕ) where
-  pub diagonal-determined : Once v (rules1 v) t 0 u m → Once v (rules1 v) t 0 w n → (u ≡ w) × (m ≡ n)
-  diagonal-determined f g = once-determined f g
+pub diagonal-determined : OneOutcome 1 diagonal-kinds.ps diagonal-kinds.r diagonal.Asked diagonal.Learnt (λ κs e. e .1 .0 .now)
+diagonal-determined κs a asked x y d e p q = let both = once-determined p q in (both .1, both .0)
 
-  -- of words that relation lines fill
-  pub relation-lines-determined : (count : ℕ) (ws : List ℕ) (ls : List RelationLine) → section (relationLine v) count ws ≡ good ls
-      → WithLines v count ws (λ ls. Once v (rules4 ls) t 0 u m) → WithLines v count ws (λ ls. Once v (rules4 ls) t 0 w n) → (u ≡ w) × (m ≡ n)
-  relation-lines-determined count ws ls e f g = once-determined (f ls e) (g ls e)
+pub relation-lines-determined : OneOutcome 2 relation-lines-kinds.ps relation-lines-kinds.r relation-lines.Asked relation-lines.Learnt (λ κs e. e .1 .1 .1 .0 .now)
+relation-lines-determined κs a asked x y d e p q = let both = once-determined (p (asked .1 .0) (asked .1 .1)) (q (asked .1 .0) (asked .1 .1)) in (both .1, both .0)
 
-  pub spread-determined : (p : ℕ) (ways : List ℕ) → Once v (rule5 (panel p 0 ways)) t 0 u m → Once v (rule5 (panel p 0 ways)) t 0 w n → (u ≡ w) × (m ≡ n)
-  spread-determined p ways f g = once-determined f g
+pub spread-determined : OneOutcome 2 spread-kinds.ps spread-kinds.r spread.Asked spread.Learnt (λ κs e. e .1 .1 .1 .0 .now)
+spread-determined κs a asked x y d e p q = let both = once-determined p q in (both .1, both .0)

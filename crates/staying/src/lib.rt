@@ -4,7 +4,7 @@ ghost use Prim.Native.Nat.{_<_};
 ghost use Rattle.rules.specs.Closing.{rules1, rules4, rule5};
 ghost use Rattle.passes.specs.Passes.{Ready, Once};
 ghost use Rattle.kinds.specs.Panels.{panel, Below};
-ghost use Rattle.kinds.specs.Sections.{WithLines};
+ghost use Rattle.kinds.specs.Sections.{HasLines, WithLines};
 ghost use Rattle.staying.specs.Ways.{apart};
 use kinds::way;
 use lines::RelationFound;
@@ -23,9 +23,9 @@ pub fn diagonal(v: usize, cells: &mut [u8]) -> u32
     struck
 }
 
-// Each relation line's cell lies within its set. It ends early only where a line is refused, and then nothing is promised.
+// Each relation line's cell lies within its set. As many relation lines as `count` fill the words, so none of them is refused.
 pub fn relation_lines(v: usize, count: usize, words: &[u16], cells: &mut [u8]) -> u32
-    requires { ⌜ Ready v (now cells) ⌝ }
+    requires { ⌜ Ready v (now cells) × HasLines v count (now words) ⌝ }
     ensures { λ n. ⌜ WithLines v count (now (words .entry)) (λ ls. Once v (rules4 ls) (now (cells .entry)) 0 (now (cells .exit)) n) ⌝ }
 {
     let mut struck = 0;

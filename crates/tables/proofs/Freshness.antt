@@ -43,7 +43,10 @@ module _ (v : ℕ) (t : List ℕ) where
     unfolding by-tests
     fresh-no-cells f = sym (tested true false in-range (ne-eqb (length t) (v * v) f))
 
+    pub fresh-full : length t ≡ v * v → outcome (numbered 0) (replicate (v * v) full) ≡ fresh v t
+    unfolding by-tests
+    fresh-full e = sym (tested true true in-range (eq-eqb (length t) (v * v) e))
+
     pub fresh-filled : (u : List ℕ) → length t ≡ v * v → u ≡ replicate (length t) 15 → outcome (numbered 0) u ≡ fresh v t
-    unfolding by-tests relations setTo setOf full
-    fresh-filled u e p =
-        ap (outcome (numbered 0)) (p ∙ ap (λ (n : ℕ). replicate n 15) e) ∙ sym (tested true true in-range (eq-eqb (length t) (v * v) e))
+    unfolding relations setTo setOf full
+    fresh-filled u e p = ap (outcome (numbered 0)) (p ∙ ap (λ (n : ℕ). replicate n 15) e) ∙ fresh-full e

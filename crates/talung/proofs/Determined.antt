@@ -1,13 +1,43 @@
--- Any two numbers and tables that the contract of a call permits are equal. Assumes nothing.
-use mathlib.Core.Path.{_≡_, sym, _∙_}
-use mathlib.Core.List.{List}
-use Prim.Native.Nat.{ℕ}
-use Rattle.rules.specs.Calls.{Outcome, reading}
-use Rattle.talung.specs.Packed.{packed, Packed}
+-- The calls for C take whatever they are lent, and any two numbers and tables that a contract permits are equal. Assumes nothing.
+use mathlib.Core.Path.{sym, _∙_}
+use Rattle.contracts.specs.Contracts.{AsksNothing, OneResult, OneOutcome}
+use Rattle.talung.proofs.talung_read.Kinds as talung-read-kinds
+use Rattle.talung.proofs.talung_read.Reads as talung-read
+use Rattle.talung.proofs.talung_fresh.Kinds as talung-fresh-kinds
+use Rattle.talung.proofs.talung_fresh.Reads as talung-fresh
+use Rattle.talung.proofs.talung_close.Kinds as talung-close-kinds
+use Rattle.talung.proofs.talung_close.Reads as talung-close
+use Rattle.talung.proofs.talung_search.Kinds as talung-search-kinds
+use Rattle.talung.proofs.talung_search.Reads as talung-search
+use Rattle.talung.proofs.talung_check.Kinds as talung-check-kinds
+use Rattle.talung.proofs.talung_check.Reads as talung-check
 
-pub talung-read-determined : (ws : List ℕ) (m n : ℕ) → m ≡ packed (reading ws) 0 → n ≡ packed (reading ws) 0 → m ≡ n
-talung-read-determined ws m n p q = p ∙ sym q
+pub talung-read-asks-nothing : AsksNothing 1 talung-read-kinds.ps talung-read.Asked
+talung-read-asks-nothing κs a = tt
 
--- of every call that is lent a table
-pub packed-determined : (o : Outcome) (m n : ℕ) (u w : List ℕ) → Packed m u o → Packed n w o → (m ≡ n) × (u ≡ w)
-packed-determined o m n u w p q = (p .answer ∙ sym (q .answer), p .table ∙ sym (q .table))
+pub talung-read-determined : OneResult 1 talung-read-kinds.ps talung-read-kinds.r talung-read.Asked talung-read.Learnt
+talung-read-determined κs a asked x y d e p q = p ∙ sym q
+
+pub talung-fresh-asks-nothing : AsksNothing 1 talung-fresh-kinds.ps talung-fresh.Asked
+talung-fresh-asks-nothing κs a = tt
+
+pub talung-fresh-determined : OneOutcome 1 talung-fresh-kinds.ps talung-fresh-kinds.r talung-fresh.Asked talung-fresh.Learnt (λ κs e. e .1 .0 .now)
+talung-fresh-determined κs a asked x y d e p q = (p .answer ∙ sym (q .answer), p .table ∙ sym (q .table))
+
+pub talung-close-asks-nothing : AsksNothing 2 talung-close-kinds.ps talung-close.Asked
+talung-close-asks-nothing κs a = tt
+
+pub talung-close-determined : OneOutcome 2 talung-close-kinds.ps talung-close-kinds.r talung-close.Asked talung-close.Learnt (λ κs e. e .1 .0 .now)
+talung-close-determined κs a asked x y d e p q = (p .answer ∙ sym (q .answer), p .table ∙ sym (q .table))
+
+pub talung-search-asks-nothing : AsksNothing 2 talung-search-kinds.ps talung-search.Asked
+talung-search-asks-nothing κs a = tt
+
+pub talung-search-determined : OneOutcome 2 talung-search-kinds.ps talung-search-kinds.r talung-search.Asked talung-search.Learnt (λ κs e. e .1 .0 .now)
+talung-search-determined κs a asked x y d e p q = (p .answer ∙ sym (q .answer), p .table ∙ sym (q .table))
+
+pub talung-check-asks-nothing : AsksNothing 2 talung-check-kinds.ps talung-check.Asked
+talung-check-asks-nothing κs a = tt
+
+pub talung-check-determined : OneResult 2 talung-check-kinds.ps talung-check-kinds.r talung-check.Asked talung-check.Learnt
+talung-check-determined κs a asked x y d e p q = p .answer ∙ sym (q .answer)

@@ -3,9 +3,13 @@ use mathlib.Core.Path.{_≡_, sym, ap, _∙_}
 use mathlib.Core.List.{List}
 use Prim.Native.Nat.{ℕ}
 use Rattle.rules.specs.Search.{End, found, none, Capped, ended, ranOut, cap}
+use Rattle.contracts.specs.Contracts.{OfTwo, OneResult}
+use Rattle.sheet.proofs.Described.{described}
 use Rattle.tries.specs.declared.Ended.{Ended}
 use Rattle.tries.specs.declared.Ended.the-variants.{Arranged, Nowhere, RanOut}
 use Rattle.tries.specs.Tries.{ends}
+use Rattle.tries.proofs.hunt.Kinds as hunt-kinds
+use Rattle.tries.proofs.hunt.Reads as hunt
 
 -- what the end is, of one that may have been capped
 abbrev tells : Capped → Ended
@@ -25,8 +29,25 @@ module _ (e : End) (b : ℕ) where
   told w (Nowhere n) h = sym (ap tells h)
   told w RanOut h = sym (ap tells h)
 
-  pub hunt-determined : (u w : List ℕ) (q r : Ended) → ends e b u q → ends e b w r → q ≡ r
-  hunt-determined u w q r f g = told u q f ∙ sym (told w r g)
+  one-end : (u w : List ℕ) (q r : Ended) → ends e b u q → ends e b w r → q ≡ r
+  one-end u w q r f g = told u q f ∙ sym (told w r g)
 
-  pub hunt-cells-determined : (u w : List ℕ) (m n : ℕ) → ends e b u (Arranged m) → ends e b w (Arranged n) → u ≡ w
-  hunt-cells-determined u w m n f g = ap (leaves u) (sym f ∙ g)
+  one-arrangement : (u w : List ℕ) (q r : Ended) (m n : ℕ) → ends e b u q → ends e b w r → q ≡ Arranged m → r ≡ Arranged n → u ≡ w
+  one-arrangement u w (Arranged i) (Arranged j) m n f g p q = ap (leaves u) (sym f ∙ g)
+  one-arrangement u w (Arranged i) (Nowhere j) m n f g p q = cc
+  one-arrangement u w (Arranged i) RanOut m n f g p q = cc
+  one-arrangement u w (Nowhere i) r m n f g p q = cc
+  one-arrangement u w RanOut r m n f g p q = cc
+
+-- how it ends
+pub hunt-determined : OneResult 5 hunt-kinds.ps hunt-kinds.r hunt.Asked hunt.Learnt
+hunt-determined κs a asked x y d e p q =
+    let s = described (a .1 .0 .now) (a .0) (asked .header) in
+    one-end _ _ (d .1 .1 .1 .1 .1 .1 .0 .now) (e .1 .1 .1 .1 .1 .1 .0 .now) x y (p (s .0) (s .1 .means)) (q (s .0) (s .1 .means))
+
+-- the cells of an arrangement
+pub hunt-cells-determined : OfTwo 5 hunt-kinds.ps hunt-kinds.r hunt.Asked hunt.Learnt
+    (λ κs x y d e. (m n : ℕ) → x ≡ Arranged m → y ≡ Arranged n → d .1 .1 .1 .1 .1 .1 .0 .now ≡ e .1 .1 .1 .1 .1 .1 .0 .now)
+hunt-cells-determined κs a asked x y d e p q m n =
+    let s = described (a .1 .0 .now) (a .0) (asked .header) in
+    one-arrangement _ _ (d .1 .1 .1 .1 .1 .1 .0 .now) (e .1 .1 .1 .1 .1 .1 .0 .now) x y m n (p (s .0) (s .1 .means)) (q (s .0) (s .1 .means))

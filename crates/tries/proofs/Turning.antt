@@ -9,7 +9,7 @@ use native.Mathlib.Omega.{arith}
 use lib.Dec.{T, T-not}
 use lib.ListN.{length, getD, set, drop}
 use lib.Seq.{drop-cons}
-use Rattle.rules.specs.Relations.{relations, setLimit, has, meet, complement, size, _liesWithin_}
+use Rattle.rules.specs.Relations.{setLimit, has, meet, complement, size, _liesWithin_}
 use Rattle.rules.specs.Descriptions.{Sheet}
 use Rattle.rules.specs.Tables.{Table, Inside, emptied}
 use Rattle.rules.specs.Closed.{Closed, Largest}

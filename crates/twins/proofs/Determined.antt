@@ -1,12 +1,8 @@
 -- Any two outcomes that the contract of `twin` permits answer one number where they leave one table. Assumes nothing.
-use mathlib.Core.Path.{_≡_}
-use mathlib.Core.List.{List}
-use Prim.Native.Nat.{ℕ}
-use Rattle.rules.specs.Descriptions.{KindLine}
-use Rattle.rules.specs.Closing.{rule7}
-use Rattle.passes.specs.Passes.{Pass, Quiet}
+use Rattle.contracts.specs.Contracts.{OneResultFor}
 use Rattle.passes.proofs.Passes.{kept-determined}
+use Rattle.twins.proofs.twin.Kinds as twin-kinds
+use Rattle.twins.proofs.twin.Reads as twin
 
-pub twin-counted : (v : ℕ) (j k : KindLine) (t w : List ℕ) (m n : ℕ) → Pass (Quiet v) v (rule7 v j k) t 0 w m → Pass (Quiet v) v (rule7 v j k) t 0 w n
-    → m ≡ n
-twin-counted v j k t w m n f g = kept-determined (f .kept) (g .kept)
+pub twin-counted : OneResultFor 3 twin-kinds.ps twin-kinds.r twin.Asked twin.Learnt (λ κs e. e .1 .1 .1 .1 .1 .1 .1 .0 .now)
+twin-counted κs a asked x y d e p q = λ same. kept-determined same (p .kept) (q .kept)

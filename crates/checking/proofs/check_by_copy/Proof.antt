@@ -7,7 +7,7 @@ use Rattle.rules.specs.Relations.{setLimit}
 use Rattle.passes.specs.Passes.{Ready}
 use Rattle.sheet.proofs.Described.{described}
 use Rattle.copies.proofs.Copying.{copied-none, copied-ready}
-use Rattle.checking.proofs.Checking.{check-no-table, check-several, check-emptied, check-struck, check-idle}
+use Rattle.checking.proofs.Checking.{check-no-table, check-several, check-emptied, check-closed}
 use borrow.Author.Needs.{needs}
 use Rattle.checking.proofs.check_by_copy.Statement.{statement}
 use Rattle.checking.proofs.check_by_copy.Tie as tie
@@ -49,11 +49,11 @@ settle-requires c κs =
     let ready = copied-ready copy (c .before .before .before .before .if1 .left) (start .pre .1 .boards) (start .pre .1 .table) in
     (start .pre .0, subst (Ready (start .args .h .boards)) (sym (copy .copy)) ready)
 
-enum-known-struck : tie.Need-enum-known-struck
-enum-known-struck c = search needs
-
 enum-told : tie.Need-enum-told
 enum-told c = search needs
+
+enum-told-2 : tie.Need-enum-told-2
+enum-told-2 c = search needs
 
 same-length-3 : tie.Need-same-length-3
 same-length-3 c = search needs
@@ -65,31 +65,19 @@ returns-3 c =
     let copy = c .before .before .before .before .before .before .before .before .before .before .before .before .copied .ensures in
     let ready = copied-ready copy (c .before .before .before .before .before .before .before .before .before .if1 .left) (start .pre .1 .boards) (start .pre .1 .table) in
     let closed = c .before .before .before .before .settle .ensures (d .0) (d .1 .means) in
-    check-emptied (start .args .words .now) (start .args .table .now) (d .1 .means) (d .1 .boards) ready (copy .copy) (c .before .before .before .before .before .before .before .decided .ensures) _ _ closed (c .enum-told .given .1)
+    check-emptied (start .args .words .now) (start .args .table .now) (d .1 .means) (d .1 .boards) ready (copy .copy) (c .before .before .before .before .before .before .before .decided .ensures) _ _ closed (c .enum-told2 .given .1)
 
 same-length-4 : tie.Need-same-length-4
 same-length-4 c = search needs
 
 returns-4 : tie.Need-returns-4
 returns-4 c =
-    let start = c .before .before .before .before .before .before .before .before .before .before .before .before .before .before .before .before .before .before .before in
+    let start = c .before .before .before .before .before .before .before .before .before .before .before .before .before .before .before .before .before in
     let d = described (start .args .words .now) (start .args .h) (start .pre .0) in
-    let copy = c .before .before .before .before .before .before .before .before .before .before .before .before .before .before .copied .ensures in
-    let ready = copied-ready copy (c .before .before .before .before .before .before .before .before .before .before .before .if1 .left) (start .pre .1 .boards) (start .pre .1 .table) in
-    let closed = c .before .before .before .before .before .before .settle .ensures (d .0) (d .1 .means) in
-    check-struck (start .args .words .now) (start .args .table .now) (d .1 .means) (d .1 .boards) ready (copy .copy) (c .before .before .before .before .before .before .before .before .before .decided .ensures) _ _ closed (c .before .before .struck .given .1) (c .if3 .taken)
-
-same-length-5 : tie.Need-same-length-5
-same-length-5 c = search needs
-
-returns-5 : tie.Need-returns-5
-returns-5 c =
-    let start = c .before .before .before .before .before .before .before .before .before .before .before .before .before .before .before .before .before .before .before in
-    let d = described (start .args .words .now) (start .args .h) (start .pre .0) in
-    let copy = c .before .before .before .before .before .before .before .before .before .before .before .before .before .before .copied .ensures in
-    let ready = copied-ready copy (c .before .before .before .before .before .before .before .before .before .before .before .if1 .left) (start .pre .1 .boards) (start .pre .1 .table) in
-    let closed = c .before .before .before .before .before .before .settle .ensures (d .0) (d .1 .means) in
-    check-idle (start .args .words .now) (start .args .table .now) (d .1 .means) (d .1 .boards) ready (copy .copy) (c .before .before .before .before .before .before .before .before .before .decided .ensures) _ _ closed (c .before .before .before .before .before .before .before .before .if2 .left) (c .before .before .struck .given .1) (c .if3 .left)
+    let copy = c .before .before .before .before .before .before .before .before .before .before .before .before .copied .ensures in
+    let ready = copied-ready copy (c .before .before .before .before .before .before .before .before .before .if1 .left) (start .pre .1 .boards) (start .pre .1 .table) in
+    let closed = c .before .before .before .before .settle .ensures (d .0) (d .1 .means) in
+    check-closed (start .args .words .now) (start .args .table .now) (d .1 .means) (d .1 .boards) ready (copy .copy) (c .before .before .before .before .before .before .before .decided .ensures) _ _ closed (c .before .before .before .before .before .before .if2 .left) (c .enum-told .given .1)
 
 pub check-by-copy-spec : {M : Type 1} → statement M
 check-by-copy-spec =
@@ -102,11 +90,9 @@ check-by-copy-spec =
     same-length-2
     returns-2
     settle-requires
-    enum-known-struck
     enum-told
+    enum-told-2
     same-length-3
     returns-3
     same-length-4
-    returns-4
-    same-length-5
-    returns-5)
+    returns-4)

@@ -5,7 +5,7 @@ use native.Mathlib.Omega.{arith}
 use borrow.Author.Count.{below-more}
 use lib.ListN.{length, getD}
 use Rattle.rules.specs.Relations.{size}
-use Rattle.checking.proofs.Checking.{singles-each, singles-none}
+use Rattle.checking.proofs.Checking.{single-each, single-none}
 use Rattle.checking.proofs.decided.Statement.{statement}
 use Rattle.checking.proofs.decided.Tie as tie
 
@@ -27,7 +27,7 @@ size-requires c κs = c .before .before .before .before .pre (c .before .before 
 returns : tie.Need-returns Inv-loop μ-loop
 returns c =
     let loop = c .before .before .before .before .loop in
-    singles-none (c .before .before .before .before .before .before .args .cells .now) (loop .i) (c .before .before .before .loop-test .taken)
+    single-none (c .before .before .before .before .before .before .args .cells .now) (loop .i) (c .before .before .before .loop-test .taken)
     (λ e. c .if1 .taken (c .before .size .ensures ∙ e))
 
 add-i : tie.Need-add-i Inv-loop μ-loop
@@ -46,7 +46,7 @@ loop-again c =
 
 returns-2 : tie.Need-returns-2 Inv-loop μ-loop
 returns-2 c =
-    singles-each (c .before .before .before .args .cells .now)
+    single-each (c .before .before .before .args .cells .now)
     (λ k l. c .before .loop .inv .1 k (omega (arith, c .loop-test .left)))
 
 pub decided-spec : {M : Type 1} → statement M

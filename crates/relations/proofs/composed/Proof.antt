@@ -1,4 +1,4 @@
--- `composed` meets its contract: its table is that of the definition. Assumes nothing.
+-- `composed` meets its contract: its table, read by row and column, is that of the definition. Assumes nothing.
 use mathlib.Core.Path.{refl}
 use native.Mathlib.Omega.{arith}
 use Rattle.rules.specs.Relations.{relations, singles, composed}
@@ -9,17 +9,17 @@ mul-result : tie.Need-mul-result
 unfolding relations
 mul-result c = record { fits = omega arith }
 
-add-result : tie.Need-add-result
+index-1-result : tie.Need-index-1-result
 unfolding relations
-add-result c = record { fits = omega arith }
+index-1-result c = omega arith
 
-array-read-result : tie.Need-array-read-result
+index-2-result : tie.Need-index-2-result
 unfolding relations
-array-read-result c = omega arith
+index-2-result c = omega arith
 
 returns : tie.Need-returns
 unfolding relations singles composed
 returns c = refl
 
 pub composed-spec : {M : Type 1} → statement M
-composed-spec = tie.close (tie.spec mul-result add-result array-read-result returns)
+composed-spec = tie.close (tie.spec mul-result index-1-result index-2-result returns)

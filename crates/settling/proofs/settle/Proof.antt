@@ -39,7 +39,9 @@ part-relation-lines-end c =
     d .1 .within
 
 relation-lines-requires : tie.Need-relation-lines-requires
-relation-lines-requires c κs = search needs
+relation-lines-requires c κs =
+    let start = c .before .before .before .before .before .before .before .before in
+    let d = described (start .args .words .now) (start .args .h) (start .pre .0) in (search needs, (d .0 .lines, d .1 .lines))
 
 add-struck : tie.Need-add-struck
 add-struck c =

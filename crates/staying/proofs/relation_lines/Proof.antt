@@ -1,5 +1,5 @@
--- `relation_lines` meets its contract: the cell of each relation line passed lies within its set. A line that is not read ends the pass, but then
--- the section is not good. The measure is the lines left. Assumes nothing.
+-- `relation_lines` meets its contract: the cell of each relation line passed lies within its set. No line is refused,
+-- since lines fill the words. The measure is the lines left. Assumes nothing.
 use mathlib.Core.Path.{sym, _∙_}
 use borrow.Author.Needs.{needs}
 use native.Mathlib.Omega.{arith}
@@ -19,7 +19,7 @@ abbrev μ-loop : tie.MeasureT-loop
 loop-holds : tie.Need-loop-holds Inv-loop μ-loop
 loop-holds c =
     let start = c .before .before in
-    once-first (relationLine (start .args .v)) (start .args .count) (start .args .words .now) (start .args .v) rule4 (start .pre .table)
+    once-first (relationLine (start .args .v)) (start .args .count) (start .args .words .now) (start .args .v) rule4 (start .pre .0 .table)
 
 mul-relation-line : tie.Need-mul-relation-line Inv-loop μ-loop
 mul-relation-line c = search needs
@@ -63,19 +63,19 @@ line-met c =
 mul-k : tie.Need-mul-k Inv-loop μ-loop
 mul-k c =
     let ruled = line-met (c .before .before) .ruled in
-    omega (arith, place-few (c .before .before .before .before .before .before .before .before .before .before .pre .boards) (ruled .p-board) (ruled .q-board))
+    omega (arith, place-few (c .before .before .before .before .before .before .before .before .before .before .pre .0 .boards) (ruled .p-board) (ruled .q-board))
 
 add-k : tie.Need-add-k Inv-loop μ-loop
 add-k c =
     let ruled = line-met (c .before .before .before) .ruled in
-    omega (arith, place-few (c .before .before .before .before .before .before .before .before .before .before .before .pre .boards) (ruled .p-board) (ruled .q-board))
+    omega (arith, place-few (c .before .before .before .before .before .before .before .before .before .before .before .pre .0 .boards) (ruled .p-board) (ruled .q-board))
 
 narrow-requires : tie.Need-narrow-requires Inv-loop μ-loop
 narrow-requires c κs =
     let start = c .before .before .before .before .before .before .before .before .before .before .before .before in
     let ruled = line-met (c .before .before .before .before) .ruled in
     let kept = c .before .before .before .before .before .before .before .before .before .loop .inv .1 .kept in
-    (ready-place (ready-kept (start .pre) kept) (ruled .p-board) (ruled .q-board), kept .table .small _, ruled .small)
+    (ready-place (ready-kept (start .pre .0) kept) (ruled .p-board) (ruled .q-board), kept .table .small _, ruled .small)
 
 sub-at : tie.Need-sub-at Inv-loop μ-loop
 sub-at c = line-met (c .before .before .before .before .before .before .before) .room
@@ -92,10 +92,10 @@ loop-again c =
     let turn = c .before .before .before .before .before .before .before .before .before .before .before .before in
     let met = line-met (c .before .before .before .before .before .before .before) in
     once-line (relationLine (start .args .v)) (start .args .count) (start .args .words .now) (start .args .v) rule4 (turn .loop .inv) (met .beyond)
-    (rule-strike (ready-kept (start .pre) (turn .loop .inv .1 .kept)) (met .ruled) (c .before .before .narrow .ensures))
+    (rule-strike (ready-kept (start .pre .0) (turn .loop .inv .1 .kept)) (met .ruled) (c .before .before .narrow .ensures))
 
 add-struck : tie.Need-add-struck Inv-loop μ-loop
-add-struck c = omega (arith, kept-few (c .before .before .before .before .before .before .before .before .before .before .before .before .before .before .before .pre) (loop-again c .1 .kept))
+add-struck c = omega (arith, kept-few (c .before .before .before .before .before .before .before .before .before .before .before .before .before .before .before .pre .0) (loop-again c .1 .kept))
 
 same-length-2 : tie.Need-same-length-2 Inv-loop μ-loop
 same-length-2 c = c .before .loop .inv .1 .kept .inside .cells

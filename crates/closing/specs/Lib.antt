@@ -1,2 +1,0 @@
--- Runs of closing calls.
-pub mod Runs

@@ -1,0 +1,147 @@
+-- What the code's contracts ask and teach, by the kit's own record of them: each function that is called from outside asks nothing, ends and does nothing
+-- undefined, and what is learnt of a call is what the demands are said of (`Entries`). Assumes nothing.
+use mathlib.Core.Path.{_≡_}
+use Rattle.rules.specs.Search.{plainOrder}
+use Rattle.contracts.specs.Contracts.{AsksNothing, Teaches}
+use Rattle.talung.specs.Packed.{unpack}
+use Rattle.talung.proofs.Packing.{unpacks, unpacks-read}
+use Rattle.talung.proofs.Numbers.{reading-numbered, fresh-numbered, close-numbered, searching-numbered, check-numbered}
+use Rattle.listing.specs.Listings.{inputLine, listing as prints}
+use Rattle.listing.specs.Pages.{page}
+use Rattle.sheet.proofs.Determined.{read-asks-nothing}
+use Rattle.tables.proofs.Determined.{fresh-asks-nothing}
+use Rattle.closing.proofs.Determined.{close-asks-nothing}
+use Rattle.search.proofs.Determined.{search-asks-nothing}
+use Rattle.checking.proofs.Determined.{check-asks-nothing}
+use Rattle.talung.proofs.Determined.{talung-read-asks-nothing, talung-fresh-asks-nothing, talung-close-asks-nothing, talung-search-asks-nothing, talung-check-asks-nothing}
+use Rattle.listing.proofs.Determined.{listing-asks-nothing, unread-asks-nothing}
+use Rattle.sheet.proofs.read.Kinds as read-kinds
+use Rattle.sheet.proofs.read.Reads as read
+use Rattle.sheet.proofs.read.Statement as read-stated
+use Rattle.sheet.proofs.read.Met as read-met
+use Rattle.tables.proofs.fresh.Kinds as fresh-kinds
+use Rattle.tables.proofs.fresh.Reads as fresh
+use Rattle.tables.proofs.fresh.Statement as fresh-stated
+use Rattle.tables.proofs.fresh.Met as fresh-met
+use Rattle.closing.proofs.close.Kinds as close-kinds
+use Rattle.closing.proofs.close.Reads as close
+use Rattle.closing.proofs.close.Statement as close-stated
+use Rattle.closing.proofs.close.Met as close-met
+use Rattle.search.proofs.search.Kinds as search-kinds
+use Rattle.search.proofs.search.Reads as search
+use Rattle.search.proofs.search.Statement as search-stated
+use Rattle.search.proofs.search.Met as search-met
+use Rattle.checking.proofs.check.Kinds as check-kinds
+use Rattle.checking.proofs.check.Reads as check
+use Rattle.checking.proofs.check.Statement as check-stated
+use Rattle.checking.proofs.check.Met as check-met
+use Rattle.talung.proofs.talung_read.Kinds as c-read-kinds
+use Rattle.talung.proofs.talung_read.Reads as c-read
+use Rattle.talung.proofs.talung_read.Statement as c-read-stated
+use Rattle.talung.proofs.talung_read.Met as c-read-met
+use Rattle.talung.proofs.talung_fresh.Kinds as c-fresh-kinds
+use Rattle.talung.proofs.talung_fresh.Reads as c-fresh
+use Rattle.talung.proofs.talung_fresh.Statement as c-fresh-stated
+use Rattle.talung.proofs.talung_fresh.Met as c-fresh-met
+use Rattle.talung.proofs.talung_close.Kinds as c-close-kinds
+use Rattle.talung.proofs.talung_close.Reads as c-close
+use Rattle.talung.proofs.talung_close.Statement as c-close-stated
+use Rattle.talung.proofs.talung_close.Met as c-close-met
+use Rattle.talung.proofs.talung_search.Kinds as c-search-kinds
+use Rattle.talung.proofs.talung_search.Reads as c-search
+use Rattle.talung.proofs.talung_search.Statement as c-search-stated
+use Rattle.talung.proofs.talung_search.Met as c-search-met
+use Rattle.talung.proofs.talung_check.Kinds as c-check-kinds
+use Rattle.talung.proofs.talung_check.Reads as c-check
+use Rattle.talung.proofs.talung_check.Statement as c-check-stated
+use Rattle.talung.proofs.talung_check.Met as c-check-met
+use Rattle.listing.proofs.listing.Kinds as listing-kinds
+use Rattle.listing.proofs.listing.Reads as listing
+use Rattle.listing.proofs.listing.Statement as listing-stated
+use Rattle.listing.proofs.listing.Met as listing-met
+use Rattle.listing.proofs.unread.Kinds as unread-kinds
+use Rattle.listing.proofs.unread.Reads as unread
+use Rattle.listing.proofs.unread.Statement as unread-stated
+use Rattle.listing.proofs.unread.Met as unread-met
+use Rattle.demands.specs.Entries.{Reads, Freshens, Closing, Searching, Checking}
+
+-- ---- whatever is lent
+
+-- Every entry point takes whatever it is lent, ends, and does nothing undefined: its contract asks nothing of the caller, and its code meets it.
+pub every-entry-point : {M : Type 1}
+    → (AsksNothing 1 read-kinds.ps read.Asked × read-stated.statement M)
+    × (AsksNothing 1 fresh-kinds.ps fresh.Asked × fresh-stated.statement M)
+    × (AsksNothing 2 close-kinds.ps close.Asked × close-stated.statement M)
+    × (AsksNothing 2 search-kinds.ps search.Asked × search-stated.statement M)
+    × (AsksNothing 2 check-kinds.ps check.Asked × check-stated.statement M)
+every-entry-point = (
+  (read-asks-nothing, read-met.met),
+  (fresh-asks-nothing, fresh-met.met),
+  (close-asks-nothing, close-met.met),
+  (search-asks-nothing, search-met.met),
+  (check-asks-nothing, check-met.met),
+)
+
+-- So does every call for C,
+pub every-call-for-c : {M : Type 1}
+    → (AsksNothing 1 c-read-kinds.ps c-read.Asked × c-read-stated.statement M)
+    × (AsksNothing 1 c-fresh-kinds.ps c-fresh.Asked × c-fresh-stated.statement M)
+    × (AsksNothing 2 c-close-kinds.ps c-close.Asked × c-close-stated.statement M)
+    × (AsksNothing 2 c-search-kinds.ps c-search.Asked × c-search-stated.statement M)
+    × (AsksNothing 2 c-check-kinds.ps c-check.Asked × c-check-stated.statement M)
+every-call-for-c = (
+  (talung-read-asks-nothing, c-read-met.met),
+  (talung-fresh-asks-nothing, c-fresh-met.met),
+  (talung-close-asks-nothing, c-close-met.met),
+  (talung-search-asks-nothing, c-search-met.met),
+  (talung-check-asks-nothing, c-check-met.met),
+)
+
+-- and so do the two functions that decide what the program prints.
+pub every-page : {M : Type 1}
+    → (AsksNothing 1 listing-kinds.ps listing.Asked × listing-stated.statement M)
+    × (AsksNothing 0 unread-kinds.ps unread.Asked × unread-stated.statement M)
+every-page = (
+  (listing-asks-nothing, listing-met.met),
+  (unread-asks-nothing, unread-met.met),
+)
+
+-- ---- what is learnt of a call
+
+pub read-learnt : Teaches 1 read-kinds.ps read-kinds.r read.Learnt (λ κs a x e. Reads (a .0 .now) x)
+read-learnt κs a x e h = h
+
+pub fresh-learnt : Teaches 1 fresh-kinds.ps fresh-kinds.r fresh.Learnt (λ κs a x e. Freshens (a .0) (a .1 .0 .now) x (e .1 .0 .now))
+fresh-learnt κs a x e h = h
+
+pub close-learnt : Teaches 2 close-kinds.ps close-kinds.r close.Learnt (λ κs a x e. Closing (a .0 .now) (a .1 .0 .now) x (e .1 .0 .now))
+close-learnt κs a x e h = h
+
+pub search-learnt : Teaches 2 search-kinds.ps search-kinds.r search.Learnt (λ κs a x e. Searching plainOrder (a .0 .now) (a .1 .0 .now) (a .1 .1 .0) x (e .1 .0 .now))
+search-learnt κs a x e h = h
+
+pub check-learnt : Teaches 2 check-kinds.ps check-kinds.r check.Learnt (λ κs a x e. Checking (a .0 .now) (a .1 .0 .now) x)
+check-learnt κs a x e h = h
+
+-- Of a call for C the same is learnt of the number and the count that its answer is unpacked to.
+pub c-read-learnt : Teaches 1 c-read-kinds.ps c-read-kinds.r c-read.Learnt (λ κs a x e. Reads (a .0 .now) (unpack x))
+c-read-learnt κs a x e h = unpacks-read (reading-numbered (a .0 .now)) h
+
+pub c-fresh-learnt : Teaches 1 c-fresh-kinds.ps c-fresh-kinds.r c-fresh.Learnt (λ κs a x e. Freshens (a .0) (a .1 .0 .now) (unpack x) (e .1 .0 .now))
+c-fresh-learnt κs a x e h = unpacks (fresh-numbered (a .0) (a .1 .0 .now)) h
+
+pub c-close-learnt : Teaches 2 c-close-kinds.ps c-close-kinds.r c-close.Learnt (λ κs a x e. Closing (a .0 .now) (a .1 .0 .now) (unpack x) (e .1 .0 .now))
+c-close-learnt κs a x e h = unpacks (close-numbered (a .0 .now) (a .1 .0 .now)) h
+
+pub c-search-learnt : Teaches 2 c-search-kinds.ps c-search-kinds.r c-search.Learnt (λ κs a x e. Searching plainOrder (a .0 .now) (a .1 .0 .now) (a .1 .1 .0) (unpack x) (e .1 .0 .now))
+c-search-learnt κs a x e h = unpacks (searching-numbered plainOrder (a .0 .now) (a .1 .0 .now) (a .1 .1 .0)) h
+
+pub c-check-learnt : Teaches 2 c-check-kinds.ps c-check-kinds.r c-check.Learnt (λ κs a x e. Checking (a .0 .now) (a .1 .0 .now) (unpack x))
+c-check-learnt κs a x e h = unpacks (check-numbered (a .0 .now) (a .1 .0 .now)) h
+
+-- Of the program's page: it is the one that 01 says, of the bytes that were read, or where none could be.
+pub listing-learnt : Teaches 1 listing-kinds.ps listing-kinds.r listing.Learnt (λ κs a x e. x ≡ page (prints (a .0 .now)))
+listing-learnt κs a x e h = h
+
+pub unread-learnt : Teaches 0 unread-kinds.ps unread-kinds.r unread.Learnt (λ κs a x e. x ≡ page inputLine)
+unread-learnt κs a x e h = h

@@ -1,6 +1,7 @@
 #!/bin/sh
 # Compares docs/STATEMENTS.md, and the table of docs/DECISIONS.md of what opens the number of relations, with the tree, in both directions: functions, theorems,
-# edits that are refused, files, declarations. Prints a line for each difference: where it is, and what stands there but not on the other side.
+# edits that are refused, files, declarations. Prints a line for each difference: where it is, and what stands there but not on the other side. Prints a line too
+# for each public function that could be private to its crate.
 # Exit status: 0 no difference; 1 a difference.
 set -eu
 LC_ALL=C
@@ -138,12 +139,35 @@ public_functions() {
 
 # Each public function has one row under 'Public functions', and each row has a function. Each function that is named anywhere is there.
 functions() {
-    public_functions >>"$room/tree"
+    cat "$room/public" >>"$room/tree"
     over '$1 == "Public functions" { print "function " callee($5), $4, "the tree" }' "$room/rows" >>"$room/docs"
     over '
         $1 == "Public functions" && seen[callee($5)]++ { print $4 ": function " callee($5) " has a row above too" }
     ' "$room/rows" >>"$room/differences"
     over '$3 ~ /^[a-z0-9_]+::/ { print "function " callee($3), $2, "the tree" }' "$room/marks" >>"$room/references"
+}
+
+# The functions that the code of each crate names of other crates, as things.
+named_functions() {
+    find crates -path '*/src/*' -name '*.rt' | xargs awk '
+        { split(FILENAME, part, "/"); sub(/\/\/.*/, "") }
+        {
+            while (match($0, /[a-z0-9_]+(::[a-z0-9_]+)+/)) {
+                name = substr($0, RSTART, RLENGTH)
+                $0 = substr($0, RSTART + RLENGTH)
+                if (index(name, part[2] "::") != 1) print "function " name
+            }
+        }
+    '
+}
+
+# Each public function is named in the code of another crate: what is not could be private to its own.
+needed() {
+    named_functions >"$room/named"
+    over '
+        FILENAME == ARGV[1] { named[$1]; next }
+        !($1 in named) { print $2 ": " $1 " is public, and no other crate names it" }
+    ' "$room/named" "$room/public" >>"$room/differences"
 }
 
 # Each row of a function names theorems of its crate's proofs/Determined, and each public one of these is named in a row of the crate.
@@ -267,8 +291,10 @@ only() {
 rows docs/STATEMENTS.md >"$room/rows"
 marks docs/STATEMENTS.md >"$room/marks"
 signatures >"$room/signatures"
+public_functions >"$room/public"
 named_files
 functions
+needed
 determined
 demands
 laws

@@ -99,6 +99,7 @@ demand-2-in-any-order {ord} order =
       none-exactly = finds-none order;
       answer-carries-tries = λ ws s means t table b a w call n. ways-tries (search-ends ord ws s means t table b a w call) n;
       answer-carries-budget = λ ws s means t table b a w call e. ways-out (search-ends ord ws s means t table b a w call) e .1;
+      search-one-outcome = λ ws t b a d u w p q. outcome-determined a d u w (p ∙ sym q);
       larger-budget-same = λ ws t b c l a d u w p q n. outcome-determined a d u w (p ∙ budget-more ord ws t b c l a u p n ∙ sym q);
       check-accepts-exactly = λ ws t a call. (check-accepts ws t a call, check-accepted ws t a call);
       check-rejects-exactly = λ ws s means t table a call. check-rejects a (check-ends ws s means t table a call);

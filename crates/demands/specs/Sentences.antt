@@ -100,6 +100,8 @@ pub record Demand2 (ord : List ℕ) (Searches : SearchCall) (Checks : CheckCall)
   -- The answer carries the tries that the stated search makes, or the budget where that ran out.
   pub answer-carries-tries : EachSearch Searches (λ s t b a w. (a .number ≡ 9 → ⊥) → a .count ≡ tries (stated ord s t))
   pub answer-carries-budget : EachSearch Searches (λ s t b a w. a .number ≡ 9 → a .count ≡ b)
+  -- Whatever is lent, any two outcomes are equal.
+  pub search-one-outcome : (ws t : List ℕ) (b : ℕ) (a d : Answer) (u w : List ℕ) → Searches ws t b a u → Searches ws t b d w → (a ≡ d) × (u ≡ w)
   -- A larger budget changes no answer other than 9, whatever is lent.
   pub larger-budget-same : (ws t : List ℕ) (b c : ℕ) → b ≤ c → (a d : Answer) (u w : List ℕ) → Searches ws t b a u → Searches ws t c d w
       → (a .number ≡ 9 → ⊥) → (a ≡ d) × (u ≡ w)

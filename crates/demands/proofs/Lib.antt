@@ -1,4 +1,4 @@
--- The three demands, the laws behind them, and calls that only look like calls.
+-- What the contracts ask and teach, the three demands, the laws behind them, and calls that only look like calls.
 pub mod Contracts
 pub mod Refusing
 pub mod Finding

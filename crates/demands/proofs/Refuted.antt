@@ -25,7 +25,7 @@ use Rattle.rules.proofs.Calls.{wellFormed-table, arrangement-arranged, arranged
 use Rattle.boards.proofs.Made.{full-table}
 use Rattle.answers.specs.declared.Answer.{Answer}
 use Rattle.demands.specs.Runs.{Stage, Called}
-use Rattle.demands.specs.Sentences.{TableCall, SearchCall, CheckCall, Demand2, Demand3}
+use Rattle.demands.specs.Sentences.{TableCall, SearchCall, CheckCall, stated, Demand2, Demand3}
 
 -- ---- what the sentences say where a search or a closing succeeds
 
@@ -43,11 +43,11 @@ closed-by d ws s means t table whole a w call =
 
 -- Under demand 2 a search that is stated to find a table within the budget answers 0, leaves that table and counts the tries.
 found-by : {Searches : SearchCall} {Checks : CheckCall} → Demand2 plainOrder Searches Checks → (ws : List ℕ) (s : Sheet) → read ws ≡ good s → (t : List ℕ)
-    → Table (s .boards) t → (n : ℕ) (x : List ℕ) → search (closing s) plainOrder (s .boards) t ≡ found n x → (b : ℕ) → n ≤ b → (a : Answer) (w : List ℕ)
+    → Table (s .boards) t → (n : ℕ) (x : List ℕ) → stated plainOrder s t ≡ found n x → (b : ℕ) → n ≤ b → (a : Answer) (w : List ℕ)
     → Searches ws t b a w → (a .number ≡ 0) × (w ≡ x) × (a .count ≡ n)
 found-by d ws s means t table n x is b l a w call =
     let least = search-found (read-wellFormed ws s means) (closing-largest s) plain-order t table n x is in
-    let few : tries (search (closing s) plainOrder (s .boards) t) ≤ b = subst (λ (e : End). tries e ≤ b) (sym is) l in
+    let few : tries (stated plainOrder s t) ≤ b = subst (λ (e : End). tries e ≤ b) (sym is) l in
     let z = d .first-is-found ws s means t table b a w call few x (least .arrangement) (least .inside) in
     let within : a .number ≡ 9 → ⊥ = λ e. let y : _≡_ {A = ℕ} 0 9 = sym z ∙ e in omega arith in (
       z,
@@ -107,8 +107,8 @@ record Computed : Type 0 where
   between-total : total between ≡ 6
   full-total : total (filled 2) ≡ 16
   -- the first arrangement is one board, after a try; where 0 is above 1 no try is made
-  first-search : search (closing firstSheet) plainOrder 2 (filled 2) ≡ found 1 oneBoard
-  strict-search : search (closing strictSheet) plainOrder 2 (filled 2) ≡ found 0 zeroAbove
+  first-search : stated plainOrder firstSheet (filled 2) ≡ found 1 oneBoard
+  strict-search : stated plainOrder strictSheet (filled 2) ≡ found 0 zeroAbove
   -- which of the tables are arrangements
   one-board-table : wellFormed 2 oneBoard ≡ true
   both-above-table : wellFormed 2 bothAbove ≡ true
@@ -243,7 +243,7 @@ module _ {Searches : SearchCall} {Checks : CheckCall} (demand : Demand2 plainOrd
   -- tries beyond the budget: anything but 9 where none is allowed
   pub tries-beyond-budget-excluded : (a : Answer) (w : List ℕ) → (a .number ≡ 9 → ⊥) → Searches first (filled 2) 0 a w → ⊥
   tries-beyond-budget-excluded a w f call =
-      let needed : tries (search (closing firstSheet) plainOrder 2 (filled 2)) ≡ 1 = ap tries (computed .first-search) in
+      let needed : tries (stated plainOrder firstSheet (filled 2)) ≡ 1 = ap tries (computed .first-search) in
       f (demand .ran-out-exactly first firstSheet (computed .first-means) (filled 2) (full-table 2) 0 a w call .1 (omega arith))
 
   -- a budget said to be spent when it is not

@@ -1,1 +1,1 @@
-// The three demands, sentence by sentence: laws alone, about what the calls promise.
+// The three demands, sentence by sentence: definitions and laws alone, about what the calls promise.

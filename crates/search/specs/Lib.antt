@@ -1,2 +1,2 @@
--- What the functions of this crate promise, and calls of the search.
+-- What the functions of this crate promise.
 pub mod Rooms

@@ -1,27 +1,35 @@
--- The lines of a section's words. Assumes nothing.
+-- The lines that fill a section's words, over what reads a line, and of kind lines and relation lines. Assumes nothing.
 use mathlib.Core.Path.{_≡_}
 use mathlib.Core.List.{List}
 use Prim.Native.Nat.{ℕ}
-use Rattle.rules.specs.Descriptions.{RelationLine, KindLine, good, relationLine, kindLine, section}
+use Rattle.rules.specs.Descriptions.{RelationLine, KindLine, Reading, Front, good, relationLine, kindLine, section}
 
--- as many kind lines as this, for boards below v, fill the words
+module _ {X : Type 0} (line : List ℕ → Reading (Front X)) (count : ℕ) (ws : List ℕ) where
+  -- these lines, as many as count says, fill the words
+  abbrev pub Fill : List X → Type 0
+  Fill xs = section line count ws ≡ good xs
+
+  -- some lines fill the words
+  abbrev pub SomeFill : Type 0
+  SomeFill = (xs : List X) × Fill xs
+
+  -- P holds of the lines that fill the words
+  abbrev pub WithFill : (List X → Type 0) → Type 0
+  WithFill P = (xs : List X) → Fill xs → P xs
+
+-- kind lines for boards below v
 abbrev pub Kinds : ℕ → ℕ → List ℕ → List KindLine → Type 0
-Kinds v count ws ks = section (kindLine v) count ws ≡ good ks
+Kinds v = Fill (kindLine v)
 
--- some kind lines fill the words
 abbrev pub HasKinds : ℕ → ℕ → List ℕ → Type 0
-HasKinds v count ws = (ks : List KindLine) × Kinds v count ws ks
+HasKinds v = SomeFill (kindLine v)
 
--- P holds of the kind lines that fill the words
 abbrev pub WithKinds : ℕ → ℕ → List ℕ → (List KindLine → Type 0) → Type 0
-WithKinds v count ws P = (ks : List KindLine) → Kinds v count ws ks → P ks
+WithKinds v = WithFill (kindLine v)
 
--- as many relation lines as this, for boards below v, fill the words; some do; P holds of those that do
-abbrev pub Lines : ℕ → ℕ → List ℕ → List RelationLine → Type 0
-Lines v count ws ls = section (relationLine v) count ws ≡ good ls
-
+-- relation lines for boards below v
 abbrev pub HasLines : ℕ → ℕ → List ℕ → Type 0
-HasLines v count ws = (ls : List RelationLine) × Lines v count ws ls
+HasLines v = SomeFill (relationLine v)
 
 abbrev pub WithLines : ℕ → ℕ → List ℕ → (List RelationLine → Type 0) → Type 0
-WithLines v count ws P = (ls : List RelationLine) → Lines v count ws ls → P ls
+WithLines v = WithFill (relationLine v)

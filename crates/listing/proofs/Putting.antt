@@ -7,7 +7,7 @@ use native.Mathlib.Omega.{arith}
 use lib.ListN.{length, getD, take, drop, set, replicate, length-append, length-replicate}
 use lib.Seq.{sets, sets-eq, length-sets, length-take-le, take-suc}
 use Rattle.listing.specs.declared.Page.{Page}
-use Rattle.listing.specs.Pages.{pageBytes, page, Fits, Put}
+use Rattle.listing.specs.Pages.{pageBytes, page, HasRoom, Put}
 
 sets-append : (xs ys t : List ℕ) (at : ℕ) → sets (sets t at xs) (at + length xs) ys ≡ sets t at (xs ++ ys)
 sets-append [] ys t at = let e : at + 0 ≡ at = omega arith in ap (λ (n : ℕ). sets t n ys) e
@@ -32,10 +32,10 @@ module _ {t : List ℕ} {at : ℕ} (xs ys : List ℕ) where
       }
 
   -- where all fits, its first part does, and then the rest
-  pub fits-first : Fits t at (xs ++ ys) → Fits t at xs
+  pub fits-first : HasRoom t at (xs ++ ys) → HasRoom t at xs
   fits-first h = record { room = omega (arith, length-append xs ys) }
 
-  pub fits-rest : {u : List ℕ} {m : ℕ} → Fits t at (xs ++ ys) → Put t at xs u m → Fits u m ys
+  pub fits-rest : {u : List ℕ} {m : ℕ} → HasRoom t at (xs ++ ys) → Put t at xs u m → HasRoom u m ys
   fits-rest {u} {m} h p = let e : m ≡ at + length xs = p .next in record { room = omega (arith, length-append xs ys, put-length p) }
 
 -- another byte of some that are put one after the other
@@ -56,7 +56,7 @@ drop-zeros (suc n) zero = let e : 0 ≡ 0 - suc n = omega arith in ap zeros e
 drop-zeros (suc n) (suc m) = let e : m - n ≡ suc m - suc n = omega arith in drop-zeros n m ∙ ap zeros e
 
 module _ {t xs : List ℕ} (e : t ≡ replicate pageBytes 0) (h : length xs ≤ pageBytes) where
-  pub page-fits : Fits t 0 xs
+  pub page-fits : HasRoom t 0 xs
   page-fits = let d : length t ≡ pageBytes = ap length e ∙ length-replicate {A = ℕ} pageBytes 0 in record { room = omega arith }
 
   pub page-whole : {u : List ℕ} {n : ℕ} → Put t 0 xs u n → _≡_ {A = Page} (record { text = u; used = n }) (page xs)

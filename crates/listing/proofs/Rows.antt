@@ -4,7 +4,7 @@ use mathlib.Core.List.{List, _++_, flatMap, append-nil, append-assoc}
 use Prim.Native.Nat.{ℕ, zero, suc, _+_, _-_, _≤_, _<_}
 use native.Mathlib.Omega.{arith}
 use Rattle.rules.specs.Tables.{range}
-use Rattle.listing.specs.Pages.{Fits, Put}
+use Rattle.listing.specs.Pages.{HasRoom, Put}
 use Rattle.listing.proofs.Putting.{put-none, put-then, fits-first, fits-rest}
 
 module _ (f : ℕ → List ℕ) where
@@ -37,7 +37,7 @@ module _ (f : ℕ → List ℕ) where
 
     module _ {t u : List ℕ} {at m q : ℕ} (l : i ≤ q) (p : Put t at (flatMap f (range i (q - i))) u m) where
       -- where all fit, the next one does
-      pub lines-fit : (n : ℕ) → q < i + n → Fits t at (flatMap f (range i n)) → Fits u m (f q)
+      pub lines-fit : (n : ℕ) → q < i + n → HasRoom t at (flatMap f (range i n)) → HasRoom u m (f q)
       lines-fit n g h =
           let e : n ≡ q - i + suc (n - suc (q - i)) = omega arith in
           let d : i + (q - i) ≡ q = omega arith in
@@ -46,7 +46,7 @@ module _ (f : ℕ → List ℕ) where
           ∙ ap (λ (k : ℕ). flatMap f (range i (q - i)) ++ flatMap f (range k (suc (n - suc (q - i))))) d
           ∙ ap (λ (ls : List ℕ). flatMap f (range i (q - i)) ++ ls) (over-first q (n - suc (q - i))) in
           fits-first (f q) (flatMap f (range (suc q) (n - suc (q - i))))
-          (fits-rest (flatMap f (range i (q - i))) (f q ++ flatMap f (range (suc q) (n - suc (q - i)))) (subst (Fits t at) all h) p)
+          (fits-rest (flatMap f (range i (q - i))) (f q ++ flatMap f (range (suc q) (n - suc (q - i)))) (subst (HasRoom t at) all h) p)
 
       pub lines-more : {w : List ℕ} {r : ℕ} → Put u m (f q) w r → Put t at (flatMap f (range i (q + 1 - i))) w r
       lines-more {w} {r} s =

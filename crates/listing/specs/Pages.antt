@@ -14,7 +14,7 @@ abbrev pub page : List ℕ → Page
 page xs = record { text = xs ++ replicate (pageBytes - length xs) 0; used = length xs }
 
 -- there is room in the text t for these bytes, from a place on
-pub record Fits (t : List ℕ) (at : ℕ) (xs : List ℕ) : Type 0 where
+pub record HasRoom (t : List ℕ) (at : ℕ) (xs : List ℕ) : Type 0 where
   pub room : at + length xs ≤ length t
 
 -- the text t with these bytes from a place on is u, and the next place is n

@@ -10,7 +10,7 @@ ghost use Rattle.rules.specs.Search.{plainOrder};
 ghost use Rattle.rules.specs.Calls.{searching};
 ghost use Rattle.rules.specs.Cases.{filled};
 ghost use Rattle.listing.specs.Listings.{budget, told, solved, listing, inputLine};
-ghost use Rattle.listing.specs.Pages.{pageBytes, page, Fits, Put};
+ghost use Rattle.listing.specs.Pages.{pageBytes, page, HasRoom, Put};
 use crate::puts::put_text;
 use crate::texts::put_heading;
 use crate::texts::put_pairs;
@@ -51,7 +51,7 @@ fn blank() -> [u8; PAGE_BYTES]
 
 // Searches a full table of v boards, and puts what is printed of that.
 fn put_solved(text: &mut [u8], words: &[u16], v: usize, table: &mut [u8]) -> usize
-    requires { ⌜ (1 ≤ v) × (v ≤ mostBoards) × (length (now table) ≡ v * v) × Fits (now text) 0 (told v (searching plainOrder (now words) (filled v) budget)) ⌝ }
+    requires { ⌜ (1 ≤ v) × (v ≤ mostBoards) × (length (now table) ≡ v * v) × HasRoom (now text) 0 (told v (searching plainOrder (now words) (filled v) budget)) ⌝ }
     ensures { λ n. ⌜ Put (now (text .entry)) 0 (told v (searching plainOrder (now (words .entry)) (filled v) budget)) (now (text .exit)) n ⌝ }
 {
     tables::fresh(v, table);
@@ -65,7 +65,7 @@ fn put_solved(text: &mut [u8], words: &[u16], v: usize, table: &mut [u8]) -> usi
 
 // Puts what is printed for a description.
 fn put_words(text: &mut [u8], words: &[u16]) -> usize
-    requires { ⌜ Fits (now text) 0 (solved (now words)) ⌝ }
+    requires { ⌜ HasRoom (now text) 0 (solved (now words)) ⌝ }
     ensures { λ n. ⌜ Put (now (text .entry)) 0 (solved (now (words .entry))) (now (text .exit)) n ⌝ }
 {
     let h = match sheet::description(words) {
@@ -80,7 +80,7 @@ fn put_words(text: &mut [u8], words: &[u16]) -> usize
 
 // Puts what is printed for the bytes.
 fn put_listing(text: &mut [u8], bytes: &[u8]) -> usize
-    requires { ⌜ Fits (now text) 0 (listing (now bytes)) ⌝ }
+    requires { ⌜ HasRoom (now text) 0 (listing (now bytes)) ⌝ }
     ensures { λ n. ⌜ Put (now (text .entry)) 0 (listing (now (bytes .entry))) (now (text .exit)) n ⌝ }
 {
     if bytes.len() % 2 != 0 || MOST_BYTES < bytes.len() {

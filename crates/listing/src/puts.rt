@@ -2,11 +2,11 @@
 ghost use mathlib.Core.Path.{_≡_};
 ghost use mathlib.Core.List.{[], _∷_};
 ghost use Rattle.listing.specs.Listings.{lastDigit, decimal};
-ghost use Rattle.listing.specs.Pages.{Fits, Put};
+ghost use Rattle.listing.specs.Pages.{HasRoom, Put};
 
 // Puts a byte.
 pub(crate) fn put_byte(text: &mut [u8], at: usize, byte: u8) -> usize
-    requires { ⌜ Fits (now text) at (byte ∷ []) ⌝ }
+    requires { ⌜ HasRoom (now text) at (byte ∷ []) ⌝ }
     ensures { λ n. ⌜ Put (now (text .entry)) at (byte ∷ []) (now (text .exit)) n ⌝ }
 {
     text[at] = byte;
@@ -15,7 +15,7 @@ pub(crate) fn put_byte(text: &mut [u8], at: usize, byte: u8) -> usize
 
 // Puts some bytes.
 pub(crate) fn put_text(text: &mut [u8], at: usize, bytes: &[u8]) -> usize
-    requires { ⌜ Fits (now text) at (now bytes) ⌝ }
+    requires { ⌜ HasRoom (now text) at (now bytes) ⌝ }
     ensures { λ n. ⌜ Put (now (text .entry)) at (now (bytes .entry)) (now (text .exit)) n ⌝ }
 {
     for i in 0..bytes.len() {
@@ -33,7 +33,7 @@ fn last_digit(n: usize) -> u8
 
 // Puts a number in decimal.
 pub(crate) fn put_number(text: &mut [u8], at: usize, n: usize) -> usize
-    requires { ⌜ Fits (now text) at (decimal n) ⌝ }
+    requires { ⌜ HasRoom (now text) at (decimal n) ⌝ }
     ensures { λ r. ⌜ Put (now (text .entry)) at (decimal n) (now (text .exit)) r ⌝ }
 {
     if n < 10 {

@@ -5,7 +5,7 @@ ghost use Prim.Native.Nat.{_*_, _≤_, _<_};
 ghost use lib.ListN.{length};
 ghost use Rattle.rules.specs.Descriptions.{mostBoards};
 ghost use Rattle.listing.specs.Listings.{decimal, lineFeed, sign, signText, refusal, heading, pairsOf, pairs};
-ghost use Rattle.listing.specs.Pages.{Fits, Put};
+ghost use Rattle.listing.specs.Pages.{HasRoom, Put};
 use crate::puts::put_byte;
 use crate::puts::put_number;
 use crate::puts::put_text;
@@ -47,7 +47,7 @@ fn widest(n: u32) -> usize
 
 // Puts a number that ends its line.
 fn put_last(text: &mut [u8], at: usize, n: usize) -> usize
-    requires { ⌜ Fits (now text) at (decimal n ++ lineFeed) ⌝ }
+    requires { ⌜ HasRoom (now text) at (decimal n ++ lineFeed) ⌝ }
     ensures { λ r. ⌜ Put (now (text .entry)) at (decimal n ++ lineFeed) (now (text .exit)) r ⌝ }
 {
     let next = put_number(text, at, n);
@@ -56,7 +56,7 @@ fn put_last(text: &mut [u8], at: usize, n: usize) -> usize
 
 // Puts the line of a refusal.
 pub(crate) fn put_refusal(text: &mut [u8], number: u8) -> usize
-    requires { ⌜ Fits (now text) 0 (refusal number) ⌝ }
+    requires { ⌜ HasRoom (now text) 0 (refusal number) ⌝ }
     ensures { λ n. ⌜ Put (now (text .entry)) 0 (refusal number) (now (text .exit)) n ⌝ }
 {
     let next = put_text(text, 0, b"refused ");
@@ -65,7 +65,7 @@ pub(crate) fn put_refusal(text: &mut [u8], number: u8) -> usize
 
 // Puts the first line.
 pub(crate) fn put_heading(text: &mut [u8], v: usize, tries: u32) -> usize
-    requires { ⌜ Fits (now text) 0 (heading v tries) ⌝ }
+    requires { ⌜ HasRoom (now text) 0 (heading v tries) ⌝ }
     ensures { λ n. ⌜ Put (now (text .entry)) 0 (heading v tries) (now (text .exit)) n ⌝ }
 {
     let count = widest(tries);
@@ -77,7 +77,7 @@ pub(crate) fn put_heading(text: &mut [u8], v: usize, tries: u32) -> usize
 
 // Puts the line of a pair.
 fn put_pair(text: &mut [u8], at: usize, p: usize, set: u8, q: usize) -> usize
-    requires { ⌜ Fits (now text) at (decimal p ++ (signText set ++ (decimal q ++ lineFeed))) ⌝ }
+    requires { ⌜ HasRoom (now text) at (decimal p ++ (signText set ++ (decimal q ++ lineFeed))) ⌝ }
     ensures { λ n. ⌜ Put (now (text .entry)) at (decimal p ++ (signText set ++ (decimal q ++ lineFeed))) (now (text .exit)) n ⌝ }
 {
     let after = put_number(text, at, p);
@@ -88,7 +88,7 @@ fn put_pair(text: &mut [u8], at: usize, p: usize, set: u8, q: usize) -> usize
 
 // Puts the lines of a board's pairs with those after it.
 fn put_pairs_of(text: &mut [u8], at: usize, v: usize, table: &[u8], p: usize) -> usize
-    requires { ⌜ (v ≤ mostBoards) × (p < v) × (length (now table) ≡ v * v) × Fits (now text) at (pairsOf v (now table) p) ⌝ }
+    requires { ⌜ (v ≤ mostBoards) × (p < v) × (length (now table) ≡ v * v) × HasRoom (now text) at (pairsOf v (now table) p) ⌝ }
     ensures { λ n. ⌜ Put (now (text .entry)) at (pairsOf v (now (table .entry)) p) (now (text .exit)) n ⌝ }
 {
     let mut next = at;
@@ -100,7 +100,7 @@ fn put_pairs_of(text: &mut [u8], at: usize, v: usize, table: &[u8], p: usize) ->
 
 // Puts the lines of all pairs.
 pub(crate) fn put_pairs(text: &mut [u8], at: usize, v: usize, table: &[u8]) -> usize
-    requires { ⌜ (v ≤ mostBoards) × (length (now table) ≡ v * v) × Fits (now text) at (pairs v (now table)) ⌝ }
+    requires { ⌜ (v ≤ mostBoards) × (length (now table) ≡ v * v) × HasRoom (now text) at (pairs v (now table)) ⌝ }
     ensures { λ n. ⌜ Put (now (text .entry)) at (pairs v (now (table .entry))) (now (text .exit)) n ⌝ }
 {
     let mut next = at;

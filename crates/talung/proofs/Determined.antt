@@ -1,6 +1,7 @@
 -- The calls for C take whatever they are lent, and any two numbers and tables that a contract permits are equal. Assumes nothing.
 use mathlib.Core.Path.{sym, _∙_}
 use Rattle.contracts.specs.Contracts.{AsksNothing, OneResult, OneOutcome}
+use Rattle.talung.proofs.Packing.{packed-determined}
 use Rattle.talung.proofs.talung_read.Kinds as talung-read-kinds
 use Rattle.talung.proofs.talung_read.Reads as talung-read
 use Rattle.talung.proofs.talung_fresh.Kinds as talung-fresh-kinds
@@ -22,22 +23,22 @@ pub talung-fresh-asks-nothing : AsksNothing 1 talung-fresh-kinds.ps talung-fresh
 talung-fresh-asks-nothing κs a = tt
 
 pub talung-fresh-determined : OneOutcome 1 talung-fresh-kinds.ps talung-fresh-kinds.r talung-fresh.Asked talung-fresh.Learnt (λ κs e. e .1 .0 .now)
-talung-fresh-determined κs a asked x y d e p q = (p .answer ∙ sym (q .answer), p .table ∙ sym (q .table))
+talung-fresh-determined κs a asked x y d e p q = packed-determined p q
 
 pub talung-close-asks-nothing : AsksNothing 2 talung-close-kinds.ps talung-close.Asked
 talung-close-asks-nothing κs a = tt
 
 pub talung-close-determined : OneOutcome 2 talung-close-kinds.ps talung-close-kinds.r talung-close.Asked talung-close.Learnt (λ κs e. e .1 .0 .now)
-talung-close-determined κs a asked x y d e p q = (p .answer ∙ sym (q .answer), p .table ∙ sym (q .table))
+talung-close-determined κs a asked x y d e p q = packed-determined p q
 
 pub talung-search-asks-nothing : AsksNothing 2 talung-search-kinds.ps talung-search.Asked
 talung-search-asks-nothing κs a = tt
 
 pub talung-search-determined : OneOutcome 2 talung-search-kinds.ps talung-search-kinds.r talung-search.Asked talung-search.Learnt (λ κs e. e .1 .0 .now)
-talung-search-determined κs a asked x y d e p q = (p .answer ∙ sym (q .answer), p .table ∙ sym (q .table))
+talung-search-determined κs a asked x y d e p q = packed-determined p q
 
 pub talung-check-asks-nothing : AsksNothing 2 talung-check-kinds.ps talung-check.Asked
 talung-check-asks-nothing κs a = tt
 
 pub talung-check-determined : OneResult 2 talung-check-kinds.ps talung-check-kinds.r talung-check.Asked talung-check.Learnt
-talung-check-determined κs a asked x y d e p q = p .answer ∙ sym (q .answer)
+talung-check-determined κs a asked x y d e p q = packed-determined p q .0

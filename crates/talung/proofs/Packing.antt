@@ -1,5 +1,5 @@
 -- A call of the solver, with its answer packed, has the outcome packed; and how number and count are taken out again. Assumes nothing.
-use mathlib.Core.Path.{_≡_, ap, _∙_}
+use mathlib.Core.Path.{_≡_, sym, ap, _∙_}
 use mathlib.Core.List.{List}
 use Prim.Native.Nat.{ℕ, _/_, _%_, _≤_}
 use native.Mathlib.Omega.{arith}
@@ -14,6 +14,10 @@ packs o a w n e is =
       answer = e ∙ ap (λ (o : Outcome). packed (o .number) (o .count)) is;
       table = ap (λ (o : Outcome). o .table) is;
     }
+
+-- any two packed answers and tables of one outcome are equal
+pub packed-determined : {o : Outcome} {m n : ℕ} {u w : List ℕ} → Packed m u o → Packed n w o → (m ≡ n) × (u ≡ w)
+packed-determined p q = (p .answer ∙ sym (q .answer), p .table ∙ sym (q .table))
 
 -- of the numbers that calls answer, which are at most 10 (`Numbers`)
 pub unpacked : (n number count : ℕ) → number ≤ 10 → n ≡ packed number count → (n % countUnit ≡ number) × (n / countUnit ≡ count)

@@ -16,7 +16,7 @@ use Rattle.rules.proofs.Composition.{converse-single, compose-single}
 use Rattle.rules.proofs.Members.{at-member, at-map}
 use Rattle.rules.proofs.Arrangements.{One, panel, fed}
 use Rattle.boards.proofs.Made.{made, made-table, made-cell, same-cells}
-use Rattle.trees.specs.Trees.{Place, child, AtOrAbove, Above, Beside, Stands, Placement, Draws, Panel, Fits, unsaid}
+use Rattle.trees.specs.Trees.{Place, child, AtOrAbove, Above, Beside, Stands, Placement, Draws, Panel, TreeFits, unsaid}
 use Rattle.trees.proofs.Places.{standing, standing-small, standing-stands, stands-standing, standing-turned, standing-composed}
 use Rattle.trees.proofs.Places.{at-cases, child-above, step-down, children-beside}
 use Rattle.trees.proofs.Rising.{rising-differ, rising-one}
@@ -158,7 +158,7 @@ one-place {d = d} a b e =
 
 -- ---- rules 4 to 7
 
-module _ {s : Sheet} (f : WellFormed s) (d : Placement (s .boards)) (g : Fits s d) {t : List ℕ} (w : Draws d t) where
+module _ {s : Sheet} (f : WellFormed s) (d : Placement (s .boards)) (g : TreeFits s d) {t : List ℕ} (w : Draws d t) where
   drawn4 : (l : RelationLine) → List·Memᴰ l (s .lines) → at s t (l .p) (l .q) liesWithin l .allowed
   drawn4 l m =
       let b = f .lines .1 l m in

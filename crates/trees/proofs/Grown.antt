@@ -19,7 +19,7 @@ use Rattle.rules.proofs.Digits.{has-single}
 use Rattle.rules.proofs.Arrangements.{panel, fed}
 use Rattle.boards.proofs.Order.{Over, same-turned, above-turned, below-turned}
 use Rattle.boards.proofs.Groups.{chief}
-use Rattle.trees.specs.Trees.{Place, child, Above, Beside, Stands, Placement, Draws, Holds, rising, Panel, Fits, unsaid}
+use Rattle.trees.specs.Trees.{Place, child, Above, Beside, Stands, Placement, Draws, Holds, rising, Panel, TreeFits, unsaid}
 use Rattle.trees.proofs.Places.{at-cases, above-at, child-not-root}
 use Rattle.trees.proofs.Spread.{places-out, Covered, spread}
 use Rattle.trees.proofs.Paths.{PathOf, under, Numbered, place, place-path, path-board, path-not-root, path-above, path-parent, parent-same, same-path, path-same, over-path, path-over}
@@ -197,9 +197,9 @@ module _ {s : Sheet} (f : WellFormed s) {t : List ℕ} (a : Arrangement s t) whe
       )
 
   -- the tree of an arrangement fits the description
-  pub drawn-fits : Fits s (drawn a)
+  pub drawn-fits : TreeFits s (drawn a)
   drawn-fits = record { lines = line-holds; kinds = panel-holds }
 
 -- Every arrangement for a description is drawn by a tree that fits it.
-pub arrangement-drawn : {s : Sheet} → WellFormed s → {t : List ℕ} → Arrangement s t → (d : Placement (s .boards)) × Fits s d × Draws d t
+pub arrangement-drawn : {s : Sheet} → WellFormed s → {t : List ℕ} → Arrangement s t → (d : Placement (s .boards)) × TreeFits s d × Draws d t
 arrangement-drawn f a = (drawn a, drawn-fits f a, grown-draws a (numbers-numbered f a))

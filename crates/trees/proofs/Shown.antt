@@ -9,7 +9,7 @@ use lib.ListN.{getD}
 use Rattle.rules.specs.Relations.{relations, same, above, side, E, A, has, setTo, setOf, join}
 use Rattle.rules.specs.Descriptions.{RelationLine, KindLine, Sheet}
 use Rattle.rules.proofs.Members.{all-one, all-append}
-use Rattle.trees.specs.Trees.{Place, child, AtOrAbove, Stands, Placement, Holds, Panel, Fits}
+use Rattle.trees.specs.Trees.{Place, child, AtOrAbove, Stands, Placement, Holds, Panel, TreeFits}
 use Rattle.trees.proofs.Places.{at-refl, child-above, standing, standing-stands}
 use Rattle.trees.proofs.Spread.{places-in, places-out, Covered, spread}
 use Rattle.trees.proofs.Drawn.{nothing-else-below}
@@ -24,7 +24,7 @@ bothWays = record {
 }
 
 -- the tree with both boards at the root fits
-pub one-place-fits : Fits bothWays (spread 2 (λ b. []) (λ x. 0))
+pub one-place-fits : TreeFits bothWays (spread 2 (λ b. []) (λ x. 0))
 unfolding relations has setTo setOf join Stands
 one-place-fits = record {
   lines = all-append held (record { p = 0; q = 1; allowed = join E A } ∷ []) (all-one held (one 0 1)) (all-one held (one 1 0));
@@ -50,7 +50,7 @@ abbrev pub stood : Place → ℕ → Place
 stood z b = getD ((0 ∷ []) ∷ (0 ∷ 0 ∷ []) ∷ (0 ∷ 1 ∷ []) ∷ z ∷ []) b []
 
 -- the tree with 3 at a third child of 0 does not fit
-pub third-child-unfit : Fits panelOfTwo (spread 4 (stood (0 ∷ 2 ∷ [])) (λ x. 5)) → ⊥
+pub third-child-unfit : TreeFits panelOfTwo (spread 4 (stood (0 ∷ 2 ∷ [])) (λ x. 5)) → ⊥
 third-child-unfit f =
     from
     (nothing-else-below (f .kinds twoWays (List·Memᴰ·head refl)) (0 ∷ 2 ∷ [])
@@ -66,7 +66,7 @@ third-child-unfit f =
     from (suc (suc i), l, h) = omega arith
 
 -- the tree with 3 below the second way fits
-pub below-a-way-fits : Fits panelOfTwo (spread 4 (stood (0 ∷ 1 ∷ 7 ∷ [])) (λ x. 5))
+pub below-a-way-fits : TreeFits panelOfTwo (spread 4 (stood (0 ∷ 1 ∷ 7 ∷ [])) (λ x. 5))
 below-a-way-fits = record { lines = λ l m. absurd (List·Memᴰ·not-nil m); kinds = all-one (Panel d) held }
   where
     d : Placement 4

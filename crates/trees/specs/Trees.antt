@@ -81,7 +81,7 @@ pub record Panel {v : ℕ} (d : Placement v) (k : KindLine) : Type 0 where
   pub ways : Children (d .tree) (d .place (k .p)) (map (d .place) (k .ways))
 
 -- The tree fits the description: each of its lines holds.
-pub record Fits (s : Sheet) (d : Placement (s .boards)) : Type 0 where
+pub record TreeFits (s : Sheet) (d : Placement (s .boards)) : Type 0 where
   pub lines : (l : RelationLine) → List·Memᴰ l (s .lines) → Holds d l
   pub kinds : (k : KindLine) → List·Memᴰ k (s .kinds) → Panel d k
 
@@ -91,8 +91,8 @@ unsaid v = record { boards = v; lines = []; kinds = [] }
 
 -- the table is drawn from a tree that fits the description
 abbrev pub DrawnFrom : Sheet → List ℕ → Type 0
-DrawnFrom s t = (d : Placement (s .boards)) × Fits s d × Draws d t
+DrawnFrom s t = (d : Placement (s .boards)) × TreeFits s d × Draws d t
 
 -- no radial tree fits the description
 abbrev pub NoTree : Sheet → Type 0
-NoTree s = (d : Placement (s .boards)) → Fits s d → ⊥
+NoTree s = (d : Placement (s .boards)) → TreeFits s d → ⊥

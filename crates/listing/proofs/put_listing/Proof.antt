@@ -9,7 +9,7 @@ use lib.Seq.{length-take-le, take-at}
 use Rattle.rules.proofs.Tests.{tested}
 use Rattle.words.specs.Words.{words}
 use Rattle.listing.specs.Listings.{mostBytes, solved, listing}
-use Rattle.listing.specs.Pages.{Fits, Put}
+use Rattle.listing.specs.Pages.{HasRoom, Put}
 use Rattle.words.proofs.Bytes.{words-length}
 use Rattle.listing.proofs.Solving.{listing-input, listing-taken}
 use borrow.Author.Needs.{needs}
@@ -23,7 +23,7 @@ put-text-requires : tie.Need-put-text-requires
 put-text-requires c κs =
     let start = c .before .before .before .before .before in
     let told = listing-input (start .args .bytes .now) (λ even few. ⊎-elim (λ w. omega tested) (λ w. omega tested) (c .before .before .if1 .came)) in
-    subst (Fits (start .args .text .now) 0) told (start .pre)
+    subst (HasRoom (start .args .text .now) 0) told (start .pre)
 
 same-length : tie.Need-same-length
 same-length c = search needs
@@ -97,7 +97,7 @@ put-words-requires : tie.Need-put-words-requires
 put-words-requires c κs =
     let done = c .before .before .before in
     let start = c .before .before .before .before .before .before .before .before .before .before in
-    subst (λ (ws : List ℕ). Fits (start .args .text .now) 0 (solved ws)) (sym (lent done)) (subst (Fits (start .args .text .now) 0) (told (done .before .before)) (start .pre))
+    subst (λ (ws : List ℕ). HasRoom (start .args .text .now) 0 (solved ws)) (sym (lent done)) (subst (HasRoom (start .args .text .now) 0) (told (done .before .before)) (start .pre))
 
 same-length-2 : tie.Need-same-length-2
 same-length-2 c = search needs

@@ -6,7 +6,7 @@ use Rattle.rules.specs.Search.{plainOrder}
 use Rattle.rules.specs.Calls.{searching}
 use Rattle.rules.specs.Cases.{filled}
 use Rattle.listing.specs.Listings.{budget, refusal, heading, pairs, told}
-use Rattle.listing.specs.Pages.{Fits, Put}
+use Rattle.listing.specs.Pages.{HasRoom, Put}
 use Rattle.listing.proofs.Putting.{put-then, fits-first, fits-rest}
 use Rattle.listing.proofs.Solving.{search-told-refused, search-told-found}
 use borrow.Author.Needs.{needs}
@@ -45,12 +45,12 @@ found c =
     search-told-found (start .args .words .now) (start .args .table .now) (start .pre .0) (start .pre .1) (start .pre .2)
     (c .before .before .before .before .before .before .before .before .fresh .ensures) (c .before .before .before .before .search .ensures) (c .if1 .left)
 
-fits : (c : tie.Else1) → Fits (given (c .before) .args .text .now) 0 (first c ++ rest c)
-fits c = subst (Fits (given (c .before) .args .text .now) 0) (found c) (given (c .before) .pre .3)
+fits : (c : tie.Else1) → HasRoom (given (c .before) .args .text .now) 0 (first c ++ rest c)
+fits c = subst (HasRoom (given (c .before) .args .text .now) 0) (found c) (given (c .before) .pre .3)
 
 put-refusal-requires : tie.Need-put-refusal-requires
 put-refusal-requires c κs =
-    let start = given (c .before .before) in subst (Fits (start .args .text .now) 0) (refused (c .before)) (start .pre .3)
+    let start = given (c .before .before) in subst (HasRoom (start .args .text .now) 0) (refused (c .before)) (start .pre .3)
 
 same-length : tie.Need-same-length
 same-length c = search needs

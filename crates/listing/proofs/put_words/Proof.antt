@@ -13,7 +13,7 @@ use Rattle.copies.proofs.Copying.{room-cells}
 use Rattle.headers.specs.declared.HeaderFound.the-variants.{Good}
 use Rattle.sheet.specs.Found.{descriptionFound}
 use Rattle.sheet.proofs.Described.{Described, described, undescribed}
-use Rattle.listing.specs.Pages.{Fits, Put}
+use Rattle.listing.specs.Pages.{HasRoom, Put}
 use Rattle.listing.proofs.Solving.{solved-refused, solved-good}
 use borrow.Author.Needs.{needs}
 use Rattle.listing.proofs.put_words.Statement.{statement}
@@ -32,7 +32,7 @@ put-refusal-requires : tie.Need-put-refusal-requires
 put-refusal-requires c κs =
     let start = c .before .before .before .before .before .before .before in
     let told = solved-refused (start .args .words .now) _ (undescribed (start .args .words .now) _ (sym (c .before .before .r .given .1) ∙ c .before .before .before .before .description .ensures)) in
-    subst (Fits (start .args .text .now) 0) told (start .pre)
+    subst (HasRoom (start .args .text .now) 0) told (start .pre)
 
 same-length : tie.Need-same-length
 same-length c = search needs
@@ -92,7 +92,7 @@ put-solved-requires c κs =
       some good,
       sheet good .1 .few,
       taken good (c .before .before .room .ensures),
-      subst (Fits (start .args .text .now) 0) (solved-good (given good) _ (header good)) (start .pre),
+      subst (HasRoom (start .args .text .now) 0) (solved-good (given good) _ (header good)) (start .pre),
     )
 
 same-length-2 : tie.Need-same-length-2

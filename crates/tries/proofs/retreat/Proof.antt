@@ -2,7 +2,7 @@
 use mathlib.Core.Path.{_≡_, subst}
 use mathlib.Core.Logic.{⊎-elim}
 use mathlib.Core.List.{List, [], _∷_}
-use Prim.Native.Nat.{ℕ, _<_}
+use Prim.Native.Nat.{ℕ, _≤_, _<_}
 use native.Mathlib.Omega.{arith}
 use lib.ListN.{length}
 use types.Run.{OneOf}
@@ -44,7 +44,8 @@ rebuild-requires c κs =
     let back = c .before .before .before .before .before .before .before .back in
     let place = c .before .before .before .place in
     let b = subst (backs (start .args .v) (start .args .order .now) (start .args .choices .now) (start .args .at .index) (back .last .1 .1 .1 .0)) (place .given .1) (back .ensures) in
-    let l : place .given .0 .0 .index < length (places (start .args .v)) = pair-within (b .pair) (b .within) in
+    let l : start .args .at .index < length (places (start .args .v)) = pair-within (start .pre .pair) (start .pre .within) in
+    let before : place .given .0 .0 .index ≤ start .args .at .index = b .most in
     let m : start .args .at .q < start .args .v = start .pre .within in (
       start .pre .ready,
       omega arith,

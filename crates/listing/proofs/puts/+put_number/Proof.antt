@@ -4,7 +4,7 @@ use mathlib.Core.List.{List, [], _∷_, _++_}
 use Prim.Native.Nat.{ℕ, _/_, _<_}
 use native.Mathlib.Omega.{arith}
 use Rattle.listing.specs.Listings.{lastDigit, decimal}
-use Rattle.listing.specs.Pages.{Fits, Put}
+use Rattle.listing.specs.Pages.{HasRoom, Put}
 use Rattle.listing.proofs.Numbers.{decimal-one, decimal-more}
 use Rattle.listing.proofs.Putting.{put-length, put-then, fits-first, fits-rest}
 use borrow.Fn.Kinds.{In}
@@ -46,7 +46,7 @@ put-number-put-byte-requires : (t : ℕ) → put-number-lts.Need-put-byte-requir
 put-number-put-byte-requires t c κs =
     let start = c .before .before .before .before in
     let e : decimal (start .args .n) ≡ c .last-digit .result ∷ [] = decimal-one (start .args .n) (omega (arith, c .before .before .if1 .taken)) ∙ ap (λ (d : ℕ). d ∷ []) (sym (c .last-digit .ensures)) in
-    subst (Fits (start .args .text .now) (start .args .at)) e (start .pre .1)
+    subst (HasRoom (start .args .text .now) (start .args .at)) e (start .pre .1)
 
 put-number-same-length : (t : ℕ) → put-number-lts.Need-same-length (calls t) (put-number-at t) put-number.Post
 put-number-same-length t c =
@@ -63,7 +63,7 @@ put-number-put-number-requires t c κs =
     let start = c .before .before .before in (
       omega (arith, start .pre .0, c .before .if1 .left),
       fits-first (decimal (start .args .n / 10)) (lastDigit (start .args .n) ∷ [])
-          (subst (Fits (start .args .text .now) (start .args .at)) (decimal-more (start .args .n) (omega (arith, c .before .if1 .left))) (start .pre .1)),
+          (subst (HasRoom (start .args .text .now) (start .args .at)) (decimal-more (start .args .n) (omega (arith, c .before .if1 .left))) (start .pre .1)),
     )
 
 put-number-last-digit-requires-2 : (t : ℕ) → put-number-lts.Need-last-digit-requires-2 (calls t) (put-number-at t) put-number.Post
@@ -75,7 +75,7 @@ put-number-put-byte-requires-2 t c κs =
     let start = c .before .before .before .before .before .before .before .before in
     let e : decimal (start .args .n) ≡ decimal (start .args .n / 10) ++ (c .last-digit2 .result ∷ []) =
     decimal-more (start .args .n) (omega (arith, c .before .before .before .before .before .before .if1 .left)) ∙ ap (λ (d : ℕ). decimal (start .args .n / 10) ++ (d ∷ [])) (sym (c .last-digit2 .ensures)) in
-    fits-rest (decimal (start .args .n / 10)) (c .last-digit2 .result ∷ []) (subst (Fits (start .args .text .now) (start .args .at)) e (start .pre .1)) (c .before .before .before .before .put-number .ensures)
+    fits-rest (decimal (start .args .n / 10)) (c .last-digit2 .result ∷ []) (subst (HasRoom (start .args .text .now) (start .args .at)) e (start .pre .1)) (c .before .before .before .before .put-number .ensures)
 
 put-number-same-length-2 : (t : ℕ) → put-number-lts.Need-same-length-2 (calls t) (put-number-at t) put-number.Post
 put-number-same-length-2 t c =

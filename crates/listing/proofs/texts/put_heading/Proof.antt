@@ -3,7 +3,7 @@ use mathlib.Core.Path.{sym, subst}
 use mathlib.Core.List.{List, _++_}
 use Prim.Native.Nat.{ℕ}
 use Rattle.listing.specs.Listings.{boardsText, triesText, lineFeed, decimal, heading}
-use Rattle.listing.specs.Pages.{Fits, Put}
+use Rattle.listing.specs.Pages.{HasRoom, Put}
 use Rattle.listing.proofs.Putting.{put-then, fits-first, fits-rest}
 use borrow.Author.Needs.{needs}
 use Rattle.listing.proofs.texts.put_heading.Statement.{statement}
@@ -31,7 +31,7 @@ put-text-requires c κs =
     let start = c .before .before .before .before in
     let v = start .args .v in
     let n = c .before .before .widest .result in
-    let fits = subst (λ (m : ℕ). Fits (start .args .text .now) 0 (heading v m)) (sym (c .before .before .widest .ensures)) (start .pre) in
+    let fits = subst (λ (m : ℕ). HasRoom (start .args .text .now) 0 (heading v m)) (sym (c .before .before .widest .ensures)) (start .pre) in
     fits-first boardsText (numbers v n) fits
 
 put-number-requires : tie.Need-put-number-requires
@@ -40,7 +40,7 @@ put-number-requires c κs =
     let start = c .before .before .before .before .before .before .before .before in
     let v = start .args .v in
     let n = c .before .before .before .before .before .before .widest .result in
-    let fits = subst (λ (m : ℕ). Fits (start .args .text .now) 0 (heading v m)) (sym (c .before .before .before .before .before .before .widest .ensures)) (start .pre) in
+    let fits = subst (λ (m : ℕ). HasRoom (start .args .text .now) 0 (heading v m)) (sym (c .before .before .before .before .before .before .widest .ensures)) (start .pre) in
     fits-first (decimal v) (later n) (fits-rest boardsText (numbers v n) fits (c .before .before .before .put-text .ensures))
 
 slice-aggregate-put-text-2 : tie.Need-slice-aggregate-put-text-2
@@ -52,7 +52,7 @@ put-text-requires-2 c κs =
     let start = c .before .before .before .before .before .before .before .before .before .before .before .before .before in
     let v = start .args .v in
     let n = c .before .before .before .before .before .before .before .before .before .before .before .widest .result in
-    let fits = subst (λ (m : ℕ). Fits (start .args .text .now) 0 (heading v m)) (sym (c .before .before .before .before .before .before .before .before .before .before .before .widest .ensures)) (start .pre) in
+    let fits = subst (λ (m : ℕ). HasRoom (start .args .text .now) 0 (heading v m)) (sym (c .before .before .before .before .before .before .before .before .before .before .before .widest .ensures)) (start .pre) in
     fits-first triesText (last n)
     (fits-rest (decimal v) (later n) (fits-rest boardsText (numbers v n) fits (c .before .before .before .before .before .before .before .before .put-text .ensures)) (c .before .before .before .before .put-number .ensures))
 
@@ -62,7 +62,7 @@ put-last-requires c κs =
     let start = c .before .before .before .before .before .before .before .before .before .before .before .before .before .before .before .before .before in
     let v = start .args .v in
     let n = c .before .before .before .before .before .before .before .before .before .before .before .before .before .before .before .widest .result in
-    let fits = subst (λ (m : ℕ). Fits (start .args .text .now) 0 (heading v m)) (sym (c .before .before .before .before .before .before .before .before .before .before .before .before .before .before .before .widest .ensures)) (start .pre) in
+    let fits = subst (λ (m : ℕ). HasRoom (start .args .text .now) 0 (heading v m)) (sym (c .before .before .before .before .before .before .before .before .before .before .before .before .before .before .before .widest .ensures)) (start .pre) in
     fits-rest triesText (last n)
     (fits-rest (decimal v) (later n) (fits-rest boardsText (numbers v n) fits (c .before .before .before .before .before .before .before .before .before .before .before .before .put-text .ensures)) (c .before .before .before .before .before .before .before .before .put-number .ensures))
     (c .before .before .before .put-text2 .ensures)

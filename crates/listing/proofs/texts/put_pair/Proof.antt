@@ -3,7 +3,7 @@ use mathlib.Core.Path.{_≡_, sym, subst}
 use mathlib.Core.List.{List, _++_}
 use Prim.Native.Nat.{ℕ}
 use Rattle.listing.specs.Listings.{lineFeed, decimal, signText}
-use Rattle.listing.specs.Pages.{Fits, Put}
+use Rattle.listing.specs.Pages.{HasRoom, Put}
 use Rattle.listing.proofs.Putting.{put-then, fits-first, fits-rest}
 use borrow.Author.Needs.{needs}
 use Rattle.listing.proofs.texts.put_pair.Statement.{statement}
@@ -37,7 +37,7 @@ put-text-requires c κs =
     let x = start .args .set in
     let q = start .args .q in
     let sign : c .before .before .sign-text .result ≡ signText x = c .before .before .sign-text .ensures in
-    subst (Fits (c .before .before .before .before .before .put-number .last .0) (c .before .before .before .before .before .put-number .result)) (sym sign)
+    subst (HasRoom (c .before .before .before .before .before .put-number .last .0) (c .before .before .before .before .before .put-number .result)) (sym sign)
     (fits-first (signText x) (last q) (fits-rest (decimal p) (later x q) (start .pre) (c .before .before .before .before .before .put-number .ensures)))
 
 put-last-requires : tie.Need-put-last-requires

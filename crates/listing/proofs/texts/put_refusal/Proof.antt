@@ -3,7 +3,7 @@ use mathlib.Core.Path.{_≡_, sym, subst}
 use mathlib.Core.List.{_++_}
 use Prim.Native.Nat.{ℕ}
 use Rattle.listing.specs.Listings.{refusedText, lineFeed, decimal, refusal}
-use Rattle.listing.specs.Pages.{Fits, Put}
+use Rattle.listing.specs.Pages.{HasRoom, Put}
 use Rattle.listing.proofs.Putting.{put-then, fits-first, fits-rest}
 use borrow.Author.Needs.{needs}
 use Rattle.listing.proofs.texts.put_refusal.Statement.{statement}
@@ -28,7 +28,7 @@ put-last-requires c κs =
     let start = c .before .before .before .before .before .before .before .before in
     let n = start .args .number in
     let number : c .wide .result ≡ n = c .wide .ensures in
-    subst (λ (m : ℕ). Fits (c .before .before .before .before .put-text .last .0) (c .before .before .before .before .put-text .result) (decimal m ++ lineFeed)) (sym number)
+    subst (λ (m : ℕ). HasRoom (c .before .before .before .before .put-text .last .0) (c .before .before .before .before .put-text .result) (decimal m ++ lineFeed)) (sym number)
     (fits-rest refusedText (decimal n ++ lineFeed) (start .pre) (c .before .before .before .before .put-text .ensures))
 
 same-length : tie.Need-same-length

@@ -214,7 +214,7 @@ static int narrow(uint8_t *cell, uint8_t bound)
 }
 
 /* Each board is the same as itself. */
-static int diagonal(size_t v, uint8_t *cells)
+static int rules1(size_t v, uint8_t *cells)
 {
     int struck = 0;
     for (size_t p = 0; p < v; p++)
@@ -223,7 +223,7 @@ static int diagonal(size_t v, uint8_t *cells)
 }
 
 /* Each relation line's cell lies within its set. */
-static int relation_lines(size_t v, size_t count, const uint16_t *words, size_t n, uint8_t *cells)
+static int rules4(size_t v, size_t count, const uint16_t *words, size_t n, uint8_t *cells)
 {
     int struck = 0;
     size_t at = 0;
@@ -238,7 +238,7 @@ static int relation_lines(size_t v, size_t count, const uint16_t *words, size_t 
 }
 
 /* The ways of each kind line lie below its panel and beside each other. */
-static int spreads(size_t v, size_t count, const uint16_t *words, uint8_t *cells)
+static int rules5(size_t v, size_t count, const uint16_t *words, uint8_t *cells)
 {
     int struck = 0;
     for (size_t l = 0; l < count; l++) {
@@ -255,7 +255,7 @@ static int spreads(size_t v, size_t count, const uint16_t *words, uint8_t *cells
 }
 
 /* Each pair of boards is the same seen from both sides. */
-static int turn(size_t v, uint8_t *cells)
+static int rules2(size_t v, uint8_t *cells)
 {
     int struck = 0;
     for (size_t p = 0; p < v; p++) {
@@ -275,7 +275,7 @@ static size_t reaching(size_t v, const struct kind_line *line, size_t z, size_t 
 }
 
 /* What is below the panel is at or below one of its ways: for the board z. */
-static int feed(size_t v, const struct kind_line *line, size_t z, uint8_t *cells)
+static int rule6_at(size_t v, const struct kind_line *line, size_t z, uint8_t *cells)
 {
     uint8_t *cell = &cells[v * line->p + z];
     if (!(*cell & A))
@@ -289,20 +289,20 @@ static int feed(size_t v, const struct kind_line *line, size_t z, uint8_t *cells
 }
 
 /* What is below a panel is at or below one of its ways. */
-static int panels(size_t v, size_t count, const uint16_t *words, uint8_t *cells)
+static int rules6(size_t v, size_t count, const uint16_t *words, uint8_t *cells)
 {
     int struck = 0;
     for (size_t l = 0; l < count; l++) {
         struct kind_line line;
         words = next_kind_line(words, &line);
         for (size_t z = 0; z < v; z++)
-            struck += feed(v, &line, z, cells);
+            struck += rule6_at(v, &line, z, cells);
     }
     return struck;
 }
 
 /* Ways in the same place may all be the same. */
-static int paired(size_t v, const struct kind_line *line, const struct kind_line *other, const uint8_t *cells)
+static int ways_match(size_t v, const struct kind_line *line, const struct kind_line *other, const uint8_t *cells)
 {
     for (size_t i = 0; i < line->count; i++) {
         if (!(cells[v * line->ways[i] + other->ways[i]] & E))
@@ -312,12 +312,12 @@ static int paired(size_t v, const struct kind_line *line, const struct kind_line
 }
 
 /* Two kind lines: if their panels are the same, so are their codes and their ways. */
-static int twin(size_t v, const struct kind_line *line, const struct kind_line *other, uint8_t *cells)
+static int rule7(size_t v, const struct kind_line *line, const struct kind_line *other, uint8_t *cells)
 {
     uint8_t *cell = &cells[v * line->p + other->p];
     if (!(*cell & E))
         return 0;
-    if (line->code != other->code || line->count != other->count || !paired(v, line, other, cells))
+    if (line->code != other->code || line->count != other->count || !ways_match(v, line, other, cells))
         return narrow(cell, NOT_SAME);
     if (*cell != E)
         return 0;
@@ -328,7 +328,7 @@ static int twin(size_t v, const struct kind_line *line, const struct kind_line *
 }
 
 /* Panels that are the same have one code and the same ways. */
-static int twins(size_t v, size_t count, const uint16_t *words, uint8_t *cells)
+static int rules7(size_t v, size_t count, const uint16_t *words, uint8_t *cells)
 {
     int struck = 0;
     const uint16_t *at = words;
@@ -339,14 +339,14 @@ static int twins(size_t v, size_t count, const uint16_t *words, uint8_t *cells)
         for (size_t j = 0; j < count; j++) {
             struct kind_line other;
             beside = next_kind_line(beside, &other);
-            struck += twin(v, &line, &other, cells);
+            struck += rule7(v, &line, &other, cells);
         }
     }
     return struck;
 }
 
 /* Each three boards: the first to the third is what the second allows. Answers the number struck, or -1 at once when a cell is empty. */
-static int sweep(size_t v, uint8_t *cells)
+static int rules3(size_t v, uint8_t *cells)
 {
     int struck = 0;
     for (size_t p = 0; p < v; p++) {
@@ -367,10 +367,10 @@ static int rounds(size_t v, size_t count, const uint16_t *words, uint8_t *cells)
 {
     int struck = 0;
     for (;;) {
-        int more = turn(v, cells);
-        more += panels(v, count, words, cells);
-        more += twins(v, count, words, cells);
-        int swept = sweep(v, cells);
+        int more = rules2(v, cells);
+        more += rules6(v, count, words, cells);
+        more += rules7(v, count, words, cells);
+        int swept = rules3(v, cells);
         if (swept < 0)
             return -1;
         more += swept;
@@ -380,18 +380,18 @@ static int rounds(size_t v, size_t count, const uint16_t *words, uint8_t *cells)
     }
 }
 
-int settle(const struct header *h, const uint16_t *words, uint8_t *cells)
+int close_cells(const struct header *h, const uint16_t *words, uint8_t *cells)
 {
     size_t v = h->boards;
     const uint16_t *kinds = words + h->middle;
-    int struck = diagonal(v, cells);
-    struck += relation_lines(v, h->lines, words + HEADER_WORDS, h->middle - HEADER_WORDS, cells);
-    struck += spreads(v, h->kinds, kinds, cells);
+    int struck = rules1(v, cells);
+    struck += rules4(v, h->lines, words + HEADER_WORDS, h->middle - HEADER_WORDS, cells);
+    struck += rules5(v, h->kinds, kinds, cells);
     int more = rounds(v, h->kinds, kinds, cells);
     return more < 0 ? -1 : struck + more;
 }
 
-int settle_again(const struct header *h, const uint16_t *words, uint8_t *cells)
+int close_again(const struct header *h, const uint16_t *words, uint8_t *cells)
 {
     return rounds(h->boards, h->kinds, words + h->middle, cells);
 }
@@ -418,7 +418,7 @@ uint64_t plain_close(const uint16_t *words, size_t n, uint8_t *table, size_t m)
     int refusal = take(words, n, table, m, &h, cells);
     if (refusal)
         return answer(refusal, 0);
-    int struck = settle(&h, words, cells);
+    int struck = close_cells(&h, words, cells);
     if (struck < 0)
         return answer(TALUNG_CONTRADICTORY, 0);
     for (size_t i = 0; i < m; i++)

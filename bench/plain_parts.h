@@ -21,9 +21,9 @@ struct header {
 int take(const uint16_t *words, size_t n, const uint8_t *table, size_t m, struct header *h, uint8_t *cells);
 
 /* Closes the cells under the description. Answers the number struck, or -1 if a cell is empty. */
-int settle(const struct header *h, const uint16_t *words, uint8_t *cells);
+int close_cells(const struct header *h, const uint16_t *words, uint8_t *cells);
 
 /* The same of cells that lie inside a closed table, in which the rules whose bounds stay strike nothing. */
-int settle_again(const struct header *h, const uint16_t *words, uint8_t *cells);
+int close_again(const struct header *h, const uint16_t *words, uint8_t *cells);
 
 #endif

@@ -3,17 +3,17 @@
 
 enum {
     RELATIONS = 4,
-    MOST_PLACES = TALUNG_MOST_BOARDS * (TALUNG_MOST_BOARDS - 1) / 2
+    MOST_PAIRS = TALUNG_MOST_BOARDS * (TALUNG_MOST_BOARDS - 1) / 2
 };
 
-/* A pair of boards p < q, and how many such pairs come before it. After the last place comes one whose q is the number of boards. */
-struct place {
+/* A pair of boards p < q, and how many such pairs come before it. After the last pair comes one whose q is the number of boards. */
+struct pair {
     size_t p;
     size_t q;
     size_t index;
 };
 
-/* The lent table closed, the table at hand inside it, and for each place that the search has passed or stands at the relations that it may still choose
+/* The lent table closed, the table at hand inside it, and for each pair that the search has passed or stands at the relations that it may still choose
    there, the one chosen being the first of them in the order. */
 struct state {
     const struct header *header;
@@ -21,23 +21,23 @@ struct state {
     const uint8_t *order;
     uint8_t first[TALUNG_MOST_CELLS];
     uint8_t cells[TALUNG_MOST_CELLS];
-    uint8_t choices[MOST_PLACES];
+    uint8_t choices[MOST_PAIRS];
 };
 
-static const struct place start = {0, 1, 0};
+static const struct pair start = {0, 1, 0};
 
-static struct place next_place(size_t v, struct place at)
+static struct pair pair_after(size_t v, struct pair at)
 {
     if (at.q + 1 < v)
-        return (struct place){at.p, at.q + 1, at.index + 1};
-    return (struct place){at.p + 1, at.p + 2, at.index + 1};
+        return (struct pair){at.p, at.q + 1, at.index + 1};
+    return (struct pair){at.p + 1, at.p + 2, at.index + 1};
 }
 
-static struct place place_before(size_t v, struct place at)
+static struct pair pair_before(size_t v, struct pair at)
 {
     if (at.p + 1 < at.q)
-        return (struct place){at.p, at.q - 1, at.index - 1};
-    return (struct place){at.p - 1, v - 1, at.index - 1};
+        return (struct pair){at.p, at.q - 1, at.index - 1};
+    return (struct pair){at.p - 1, v - 1, at.index - 1};
 }
 
 /* The first relation of the order that the set has, as a set; none of an empty set. */
@@ -52,7 +52,7 @@ static uint8_t pick(const uint8_t *order, uint8_t set)
 }
 
 /* The set without that relation. */
-static uint8_t less(const uint8_t *order, uint8_t set)
+static uint8_t unpicked(const uint8_t *order, uint8_t set)
 {
     return set & ~pick(order, set);
 }
@@ -62,11 +62,11 @@ static int is_single(uint8_t set)
     return (set & (set - 1)) == 0;
 }
 
-/* Passes the places from this one on whose cells are single. Answers the place of the next try, or the one after the last. */
-static struct place onward(struct state *s, struct place at)
+/* Passes the pairs from this one on whose cells are single. Answers the pair of the next try, or the one after the last. */
+static struct pair next_open(struct state *s, struct pair at)
 {
     size_t v = s->header->boards;
-    for (; at.q < v; at = next_place(v, at)) {
+    for (; at.q < v; at = pair_after(v, at)) {
         uint8_t set = s->cells[v * at.p + at.q];
         s->choices[at.index] = set;
         if (!is_single(set))
@@ -75,34 +75,34 @@ static struct place onward(struct state *s, struct place at)
     return at;
 }
 
-/* Tries the relation that is chosen at this place. Answers whether the table at hand is closed then, and not contradictory. */
-static int try_at(struct state *s, struct place at)
+/* Tries the relation that is chosen at this pair. Answers whether the table at hand is closed then, and not contradictory. */
+static int try_at(struct state *s, struct pair at)
 {
     s->cells[s->header->boards * at.p + at.q] = pick(s->order, s->choices[at.index]);
-    return settle_again(s->header, s->words, s->cells) >= 0;
+    return close_again(s->header, s->words, s->cells) >= 0;
 }
 
-/* Goes back from a place whose try has failed to the last one with a relation left to choose. Answers whether there is one. */
-static int back(struct state *s, struct place *at)
+/* Goes back from a pair whose try has failed to the last one with a relation left to choose. Answers whether there is one. */
+static int last_open(struct state *s, struct pair *at)
 {
     for (;;) {
         uint8_t *choice = &s->choices[at->index];
-        *choice = less(s->order, *choice);
+        *choice = unpicked(s->order, *choice);
         if (*choice)
             return 1;
         if (at->index == 0)
             return 0;
-        *at = place_before(s->header->boards, *at);
+        *at = pair_before(s->header->boards, *at);
     }
 }
 
-/* Makes the table at hand anew: the first one, with what is chosen at the places before this one. */
-static void rebuild(struct state *s, struct place to)
+/* Makes the table at hand anew: the first one, with what is chosen at the pairs before this one. */
+static void rebuild(struct state *s, struct pair to)
 {
     size_t v = s->header->boards;
     for (size_t i = 0; i < v * v; i++)
         s->cells[i] = s->first[i];
-    for (struct place at = start; at.index < to.index; at = next_place(v, at))
+    for (struct pair at = start; at.index < to.index; at = pair_after(v, at))
         s->cells[v * at.p + at.q] = pick(s->order, s->choices[at.index]);
 }
 
@@ -111,16 +111,16 @@ static uint64_t search(struct state *s, uint32_t budget)
 {
     size_t v = s->header->boards;
     uint32_t tries = 0;
-    struct place at = onward(s, start);
+    struct pair at = next_open(s, start);
     while (at.q < v) {
         if (tries == budget)
             return answer(TALUNG_RAN_OUT, budget);
         tries++;
         if (try_at(s, at)) {
-            at = onward(s, next_place(v, at));
+            at = next_open(s, pair_after(v, at));
             continue;
         }
-        if (!back(s, &at))
+        if (!last_open(s, &at))
             return answer(TALUNG_NOWHERE, tries);
         rebuild(s, at);
     }
@@ -135,7 +135,7 @@ uint64_t plain_search(const uint16_t *words, size_t n, uint8_t *table, size_t m,
     int refusal = take(words, n, table, m, &h, s.first);
     if (refusal)
         return answer(refusal, 0);
-    if (settle(&h, words, s.first) < 0)
+    if (close_cells(&h, words, s.first) < 0)
         return answer(TALUNG_NOWHERE, 0);
     s.header = &h;
     s.words = words;

@@ -44,7 +44,7 @@ static void make_panels(struct sheet *s)
 }
 
 /* As many kind lines as there may be, of one code and one number of ways. */
-static void make_twins(struct sheet *s)
+static void make_same_panels(struct sheet *s)
 {
     struct site site;
     grow_alike(&site, 16, between(1, MOST_WAYS));
@@ -306,7 +306,7 @@ void make_closed_groups(struct group groups[CLOSED_GROUPS])
     fill(&groups[1], "sparse", 40, make_sparse);
     fill(&groups[2], "dense", 40, make_dense);
     fill(&groups[3], "panels", 40, make_panels);
-    fill(&groups[4], "twins", 40, make_twins);
+    fill(&groups[4], "same panels", 40, make_same_panels);
     fill(&groups[5], "small", 40, make_small);
     fill_kinds(&groups[6], "contradictory", 40, 8, make_contradictory);
     fill_kinds(&groups[7], "refused", 48, 48, make_refused);

@@ -1,2 +1,3 @@
--- The law of answers.
+-- The laws of answers.
 pub mod Outcomes
+pub mod Determined

@@ -1,13 +1,17 @@
 -- An answer of the code, as the definitions of the calls number and count it. Assumes nothing.
-use mathlib.Core.List.{List}
 use Prim.Native.Nat.{ℕ}
 use Rattle.rules.specs.Calls.{Outcome}
 use Rattle.answers.specs.declared.Answer.{Answer}
+use Rattle.answers.specs.declared.refusals.Refusal.{Refusal}
 
--- this number, with count 0
-abbrev pub numbered : ℕ → Answer
-numbered n = record { number = n; count = 0 }
+-- this number and this count
+abbrev pub answered : ℕ → ℕ → Answer
+answered n c = record { number = n; count = c }
 
--- an answer, and the lent table afterwards
-abbrev pub outcome : Answer → List ℕ → Outcome
-outcome a t = record { number = a .number; count = a .count; table = t }
+-- a refusal by its number
+abbrev pub refusal : ℕ → Refusal
+refusal n = record { number = n }
+
+-- an answer, and what is lent as it is afterwards
+abbrev pub outcome : {L : Type 0} → Answer → L → Outcome L
+outcome a l = record { number = a .number; count = a .count; lent = l }

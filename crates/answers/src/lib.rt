@@ -1,5 +1,28 @@
+// The numbers that the rules document fixes: refusals, limits with room for what they allow, and answers; and numbers in wider types.
+pub mod limits;
+pub mod refusals;
+pub mod rooms;
+pub mod widths;
+
+ghost use mathlib.Core.Path.{_≡_};
+ghost use Rattle.answers.specs.Answers.{answered};
+
 // What every call answers: a number, 0 for success and else a refusal's, and a count.
 pub struct Answer {
     pub number: u8,
     pub count: u32,
+}
+
+// The answer of a call that refuses, by the number of the refusal.
+pub fn refuse(number: u8, count: u32) -> Answer
+    ensures { λ a. ⌜ a ≡ answered number count ⌝ }
+{
+    Answer { number, count }
+}
+
+// The answer of a call that succeeds.
+pub fn succeed(count: u32) -> Answer
+    ensures { λ a. ⌜ a ≡ answered 0 count ⌝ }
+{
+    Answer { number: 0, count }
 }

@@ -1,5 +1,6 @@
 // The numbers that a case begins with.
-ghost use mathlib.Core.Path.{_≡_};
+use answers::widths::byte_number;
+use answers::widths::count_number;
 
 // The call, its number, and how many words and cells it is lent.
 pub(crate) struct Front {
@@ -9,23 +10,19 @@ pub(crate) struct Front {
     pub cells: usize,
 }
 
-fn wide(x: u8) -> u32
-    ensures { λ n. ⌜ n ≡ x ⌝ }
-{
-    x as u32
-}
-
-// Four bytes as a number.
+// Four bytes as a number, the lowest first.
 fn number(a: u8, b: u8, c: u8, d: u8) -> u32 {
-    let low = wide(a) + 256 * wide(b);
-    let high = wide(c) + 256 * wide(d);
-    low + 65536 * high
+    let low = byte_number(a) + 256 * byte_number(b);
+    let high = byte_number(c) + 256 * byte_number(d);
+    (low + 65536 * high) as u32
 }
 
+// Four bytes as a length, the lowest first.
 fn length(a: u8, b: u8, c: u8, d: u8) -> usize {
-    number(a, b, c, d) as usize
+    count_number(number(a, b, c, d))
 }
 
+// The numbers in the first 16 bytes of a case.
 pub(crate) fn beginning(b: [u8; 16]) -> Front {
     Front {
         call: number(b[0], b[1], b[2], b[3]),

@@ -15,25 +15,31 @@ use crate::fronts::beginning;
 use crate::says::say_page;
 use libc::STDIN_FILENO;
 
-// The calls. 3, and any other number, is a search.
+// The call that reads a description.
 const READ: u32 = 0;
 
+// The call that makes a fresh table.
 const FRESH: u32 = 1;
 
+// The call that closes a table.
 const CLOSE: u32 = 2;
 
+// The call that checks an arrangement.
 const CHECK: u32 = 4;
 
+// The call of a case of the program.
 const SITE: u32 = 5;
 
-// The most words and cells of a case, and the most cases.
-const MOST_WORDS: usize = 65600;
+// The most words of a case.
+const CASE_WORDS: usize = 65600;
 
-const MOST_CELLS: usize = 512;
+// The most cells of a case.
+const CASE_CELLS: usize = 512;
 
+// The most cases of a run.
 const MOST_CASES: usize = 1000000000;
 
-// Makes a call of the solver.
+// Makes a call of the solver: a search, unless the number is that of another call.
 fn make(call: u32, number: u32, words: &[u16], lent: &[u8], cells: &mut [u8]) {
     if call == READ {
         return calls::read(words);
@@ -78,7 +84,7 @@ fn solve(
         return false;
     }
     words::take_words(bytes, words);
-    copies::copy(lent, cells);
+    bytes::copy(lent, cells);
     make(call, number, words, lent, cells);
     true
 }
@@ -132,10 +138,10 @@ fn case(bytes: &mut [u8], words: &mut [u16], lent: &mut [u8], cells: &mut [u8]) 
 }
 
 fn main() {
-    let mut bytes_room = [0u8; 2 * MOST_WORDS];
-    let mut words_room = [0u16; MOST_WORDS];
-    let mut lent_room = [0u8; MOST_CELLS];
-    let mut cells_room = [0u8; MOST_CELLS];
+    let mut bytes_room = [0u8; 2 * CASE_WORDS];
+    let mut words_room = [0u16; CASE_WORDS];
+    let mut lent_room = [0u8; CASE_CELLS];
+    let mut cells_room = [0u8; CASE_CELLS];
     let bytes: &mut [u8] = &mut bytes_room;
     let words: &mut [u16] = &mut words_room;
     let lent: &mut [u8] = &mut lent_room;

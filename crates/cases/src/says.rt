@@ -1,4 +1,6 @@
 // What a case comes to, as text.
+use answers::widths::byte_number;
+use answers::widths::number_long;
 use libc::STDOUT_FILENO;
 use listing::PAGE_BYTES;
 use listing::Page;
@@ -10,10 +12,6 @@ pub(crate) fn say_answer(call: &[u8], answer: u64) {
     io::print_decimal(STDOUT_FILENO, answer % COUNT_UNIT);
     io::write_all(STDOUT_FILENO, b" ");
     io::print_decimal(STDOUT_FILENO, answer / COUNT_UNIT);
-}
-
-fn wide(x: u8) -> u64 {
-    x as u64
 }
 
 // Ends the line.
@@ -30,7 +28,7 @@ pub(crate) fn say_table(lent: &[u8], cells: &[u8]) {
     io::write_all(STDOUT_FILENO, b" ");
     let mut i = 0;
     while i < cells.len() {
-        io::print_hex(STDOUT_FILENO, wide(cells[i]), 1);
+        io::print_hex(STDOUT_FILENO, number_long(byte_number(cells[i])), 1);
         i += 1;
     }
     say_end();

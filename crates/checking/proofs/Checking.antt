@@ -1,19 +1,19 @@
--- The check of a table, by its cases: what is refused before it is looked at, a cell that is not single, a table that closing empties, an arrangement.
+-- The check of a table that was admitted, by its cases: a cell that is not single, a table that closing empties, an arrangement.
 -- Assumes nothing.
 use mathlib.Core.Path.{_≡_, refl, sym, ap, _∙_, subst}
 use mathlib.Core.Bool.{Bool, true, false, not}
 use mathlib.Core.List.{List, [], _∷_}
 use Prim.Native.Nat.{ℕ, suc, _+_, _≤_, _<_}
 use native.Mathlib.Omega.{arith}
-use borrow.Author.Tests.{not-true, not-false}
+use borrow.Author.Tests.{not-true}
 use lib.Dec.{T, eqb, eqb→eq}
 use lib.ListN.{length, getD}
 use Rattle.rules.specs.Relations.{eachOf, size}
-use Rattle.rules.specs.Descriptions.{Sheet, good, refused, read}
+use Rattle.rules.specs.Descriptions.{Sheet, good, read}
 use Rattle.rules.specs.Tables.{Table, emptied, total}
 use Rattle.rules.specs.Closed.{Closed}
 use Rattle.rules.specs.Closing.{rules, closing}
-use Rattle.rules.specs.Calls.{Outcome, refuse, succeed, idle, arranged, check}
+use Rattle.rules.specs.Calls.{refuse, succeed, idle, arranged, check}
 use Rattle.rules.proofs.Tests.{T-true, T-false, true-T, and-T, T-and-left}
 use Rattle.rules.proofs.Sets.{lies-within}
 use Rattle.rules.proofs.Members.{each-of-in, each-of-out, each-of-places, member-at}
@@ -22,11 +22,15 @@ use Rattle.rules.proofs.Descriptions.{read-wellFormed}
 use Rattle.rules.proofs.Rules.{closed-idle}
 use Rattle.rules.proofs.Largest.{closing-largest}
 use Rattle.rules.proofs.Arrangements.{arrangement-kept, arrangement-whole}
-use Rattle.rules.proofs.Calls.{total-least, given-refused, given-no-table, given-good, arranged-arrangement}
-use Rattle.passes.specs.Passes.{Ready}
+use Rattle.rules.proofs.Calls.{total-least, arranged-arrangement}
+use Rattle.rules.proofs.Called.{by-test, check-good}
+use Rattle.answers.specs.declared.Answer.{Answer}
+use Rattle.answers.specs.Answers.{answered, outcome}
+use Rattle.headers.specs.declared.Header.{Header}
 use Rattle.sweeps.specs.declared.Swept.{Swept}
 use Rattle.sweeps.specs.declared.Swept.the-variants.{Struck, Emptied}
-use Rattle.settling.specs.Closes.{Closes, closes}
+use Rattle.closing.specs.Closes.{Admitted, Closes, closes, ClosesUnder}
+use Rattle.closing.proofs.Calling.{admitted-means, admitted-closes}
 
 -- ---- single cells
 
@@ -64,77 +68,56 @@ single-unstruck {s} {t} {w} {n} table e k =
 
 -- ---- the call
 
-module _ (ws t : List ℕ) where
-  -- the outcome under a good description: by whether the table is an arrangement
-  abbrev pub by-test : Bool → Outcome
-  by-test b = elim b [ true ↦ succeed 0 t | false ↦ refuse 10 0 t ]
+module _ (ws t : List ℕ) (s : Sheet) (means : read ws ≡ good s) (table : Table (s .boards) t) where
+  check-arranged : T (arranged s t) → succeed 0 t ≡ check ws t
+  check-arranged a = sym (check-good t ws s means table ∙ ap (by-test t) (T-true {b = arranged s t} a))
 
-  after : Sheet → Outcome
-  after s = by-test (arranged s t)
+  check-not : (T (arranged s t) → ⊥) → refuse 10 0 t ≡ check ws t
+  check-not f = sym (check-good t ws s means table ∙ ap (by-test t) (T-false {b = arranged s t} f))
 
-  pub check-refused : (n : ℕ) → read ws ≡ refused n → refuse n 0 t ≡ check ws t
-  unfolding check after
-  check-refused n e = sym (given-refused ws t after n e)
+  -- a cell has none or several relations
+  not-single : allSingle t ≡ false → T (arranged s t) → ⊥
+  unfolding arranged
+  not-single e a = subst T e (T-and-left (allSingle t) (eachOf (idle (s .boards) t) (rules s)) a)
 
-  module _ (s : Sheet) (means : read ws ≡ good s) where
-    pub check-no-table : (Table (s .boards) t → ⊥) → refuse 6 0 t ≡ check ws t
-    unfolding check after
-    check-no-table f = sym (given-no-table ws t after s means f)
+  -- an arrangement is kept by closing, so no cell is emptied
+  not-emptied : T (emptied (closing s t)) → T (arranged s t) → ⊥
+  not-emptied e a =
+      let f = read-wellFormed ws s means in
+      let r = arranged-arrangement f table a in
+      arrangement-whole r (emptied-inside table (arrangement-kept f (closing-largest s t table) r (inside-refl t)) e)
 
-    module _ (table : Table (s .boards) t) where
-      pub check-good : check ws t ≡ by-test (arranged s t)
-      unfolding check after
-      check-good = given-good ws t after s means table
+  -- a table of single cells of which closing strikes nothing is closed, so it is an arrangement
+  closed-arranged : allSingle t ≡ true → Closed s t → T (arranged s t)
+  unfolding arranged
+  closed-arranged e c =
+      and-T (allSingle t) (eachOf (idle (s .boards) t) (rules s)) (true-T e)
+      (each-of-in (idle (s .boards) t) (rules s) (λ r m. lies-within (closed-idle c r m)))
 
-      check-arranged : T (arranged s t) → succeed 0 t ≡ check ws t
-      check-arranged a = sym (check-good ∙ ap by-test (T-true {b = arranged s t} a))
+  same-closed : {w : List ℕ} {n : ℕ} → Closes s t w n → n ≡ 0 → Closed s t
+  same-closed {w} {n} k z =
+      let e : n + total w ≡ total t = k .counted in
+      subst (Closed s) (total-tight (k .largest .table) table (k .largest .inside) (omega arith)) (k .largest .closed)
 
-      check-not : (T (arranged s t) → ⊥) → refuse 10 0 t ≡ check ws t
-      check-not f = sym (check-good ∙ ap by-test (T-false {b = arranged s t} f))
+-- the same of a table that was admitted
+module _ {h : Header} {ws t : List ℕ} (admitted : Admitted h ws t) where
+  pub check-several : {a : Answer} {b : Bool} → b ≡ allSingle t → not b ≡ true → a ≡ answered 10 0 → outcome a t ≡ check ws t
+  check-several {a} {b} said e f =
+      let d = admitted-means admitted in
+      ap (λ (a : Answer). outcome a t) f ∙ check-not ws t (d .0) (d .1) (d .2) (not-single ws t (d .0) (d .1) (d .2) (sym said ∙ not-true b e))
 
-      -- a cell has none or several relations
-      not-single : allSingle t ≡ false → T (arranged s t) → ⊥
-      unfolding arranged
-      not-single e a = subst T e (T-and-left (allSingle t) (eachOf (idle (s .boards) t) (rules s)) a)
+  -- whose cells are single, and whose copy u was closed to w
+  module _ {u : List ℕ} (copy : u ≡ t) (single : true ≡ allSingle t) (w : List ℕ) (r : Swept) (closed : ClosesUnder ws u w r) where
+    pub check-emptied : {a : Answer} → r ≡ Emptied → a ≡ answered 10 0 → outcome a t ≡ check ws t
+    check-emptied e f =
+        let d = admitted-closes admitted copy w r closed in
+        ap (λ (a : Answer). outcome a t) f
+        ∙ check-not ws t (d .0) (d .1) (d .2) (not-emptied ws t (d .0) (d .1) (d .2) (subst (closes (d .0) t w) e (d .3)))
 
-      -- an arrangement is kept by closing, so no cell is emptied
-      not-emptied : T (emptied (closing s t)) → T (arranged s t) → ⊥
-      not-emptied e a =
-          let f = read-wellFormed ws s means in
-          let r = arranged-arrangement f table a in
-          arrangement-whole r (emptied-inside table (arrangement-kept f (closing-largest s t table) r (inside-refl t)) e)
-
-      -- a table of single cells of which closing strikes nothing is closed, so it is an arrangement
-      closed-arranged : allSingle t ≡ true → Closed s t → T (arranged s t)
-      unfolding arranged
-      closed-arranged e c =
-          and-T (allSingle t) (eachOf (idle (s .boards) t) (rules s)) (true-T e)
-          (each-of-in (idle (s .boards) t) (rules s) (λ r m. lies-within (closed-idle c r m)))
-
-      same-closed : {w : List ℕ} {n : ℕ} → Closes s t w n → n ≡ 0 → Closed s t
-      same-closed {w} {n} k z =
-          let e : n + total w ≡ total t = k .counted in
-          subst (Closed s) (total-tight (k .largest .table) table (k .largest .inside) (omega arith)) (k .largest .closed)
-
--- the same of a copy u of the table, of which it is known whether its cells are single, and which was closed to w
-module _ (ws t : List ℕ) {s : Sheet} (means : read ws ≡ good s) {v : ℕ} (boards : v ≡ s .boards) (ready : Ready v t) {u : List ℕ} (copy : u ≡ t) where
-  table : Table (s .boards) t
-  table = subst (λ (n : ℕ). Table n t) boards (ready .table)
-
-  module _ {b : Bool} (said : b ≡ allSingle u) where
-    pub check-several : not b ≡ true → refuse 10 0 t ≡ check ws t
-    check-several e = check-not ws t s means table (not-single ws t s means table (ap allSingle (sym copy) ∙ sym said ∙ not-true b e))
-
-    module _ (w : List ℕ) (r : Swept) (closed : closes s u w r) where
-      under : closes s t w r
-      under = subst (λ (x : List ℕ). closes s x w r) copy closed
-
-      pub check-emptied : r ≡ Emptied → refuse 10 0 t ≡ check ws t
-      check-emptied e = check-not ws t s means table (not-emptied ws t s means table (subst (closes s t w) e under))
-
-      pub check-closed : {n : ℕ} → not b ≡ false → r ≡ Struck n → succeed 0 t ≡ check ws t
-      check-closed d e =
-          let single = ap allSingle (sym copy) ∙ sym said ∙ not-false b d in
-          let k = subst (closes s t w) e under in
-          check-arranged ws t s means table
-          (closed-arranged ws t s means table single (same-closed ws t s means table k (single-unstruck table single k)))
+    pub check-closed : {a : Answer} {n : ℕ} → r ≡ Struck n → a ≡ answered 0 0 → outcome a t ≡ check ws t
+    check-closed e f =
+        let d = admitted-closes admitted copy w r closed in
+        let k = subst (closes (d .0) t w) e (d .3) in
+        ap (λ (a : Answer). outcome a t) f
+        ∙ check-arranged ws t (d .0) (d .1) (d .2)
+        (closed-arranged ws t (d .0) (d .1) (d .2) (sym single) (same-closed ws t (d .0) (d .1) (d .2) k (single-unstruck (d .2) (sym single) k)))

@@ -1,5 +1,5 @@
 -- The arrangements of a description are exactly the tables of the solutions of its published constraints. Boards that are the same share the node of
--- the last of them, whose sets are those of its row. Assumes nothing.
+-- the least of them, whose sets are those of its row. Assumes nothing.
 use mathlib.Core.Path.{_≡_, refl, sym, ap, ap₂, _∙_, subst}
 use mathlib.Core.Bool.{Bool, true, not, _||_}
 use mathlib.Core.Logic.{_⊎_, inl, inr, ⊎-elim, _↔_}

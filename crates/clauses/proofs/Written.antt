@@ -6,8 +6,7 @@ use native.Mathlib.Omega.{arith}
 use lib.ListN.{length, getD, take, drop, take-append-drop, length-drop}
 use lib.Seq.{length-take-le, drop-cons, drop-drop}
 use Rattle.rules.specs.Expressions.{Value, value, malformed, expression, written}
-use Rattle.rules.specs.Descriptions.{RelationLine, KindLine, Sheet, Reading, good, Front, need, next, meaning, relationLine, kindLine, section, numbersFit, offsetsFit, relationLines, kindLines, read}
-use Rattle.rules.specs.Cases.{describe}
+use Rattle.rules.specs.Descriptions.{RelationLine, KindLine, Sheet, Reading, good, Front, need, next, meaning, relationLine, kindLine, section, numbersFit, offsetsFit, relationLines, kindLines, read, describe}
 use Rattle.rules.proofs.Expressions.{expression-written}
 use Rattle.rules.proofs.Readings.{never, need-test, need-rest, next-out}
 use Rattle.rules.proofs.Headers.{InRange, Placed, numbers-out, places-out}

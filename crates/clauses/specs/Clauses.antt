@@ -9,10 +9,9 @@ use lib.Dec.{T, eqb, leb}
 use lib.ListN.{length, getD}
 use Rattle.rules.specs.Relations.{relations, E, A, B, S}
 use Rattle.rules.specs.Expressions.{Phrase, onlyE, onlyA, onlyB, onlyS, unionOf, intersectionOf, complementOf, inverseOf, written, denoted}
-use Rattle.rules.specs.Descriptions.{RelationLine, KindLine, Sheet}
+use Rattle.rules.specs.Descriptions.{RelationLine, KindLine, Sheet, describe}
 use Rattle.rules.specs.Tables.{cell, Table}
 use Rattle.rules.specs.Arrangements.{way, width}
-use Rattle.rules.specs.Cases.{describe}
 
 -- ---- descriptions as they are published
 

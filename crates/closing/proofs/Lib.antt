@@ -1,3 +1,5 @@
--- The laws behind the call, and what it is shown to do.
+-- The laws behind the functions of this crate.
+pub mod Repeating
+pub mod Closings
 pub mod Calling
 pub mod Determined

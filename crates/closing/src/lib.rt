@@ -1,63 +1,77 @@
-// Closing a table: the largest closed table inside it.
+// Closing under a description that was read: first the rules that need no second look (1, 4 and 5), then rounds of the others.
+mod rounds;
+mod walks;
+
 ghost use mathlib.Core.Path.{_≡_};
+ghost use lib.ListN.{length};
 ghost use Rattle.rules.specs.Calls.{close};
 ghost use Rattle.answers.specs.Answers.{outcome};
-ghost use Rattle.headers.specs.declared.HeaderFound.the-variants.{Good};
-ghost use Rattle.sheet.specs.Found.{descriptionFound};
-ghost use Rattle.settling.specs.Closes.{Working};
+ghost use Rattle.closing.specs.Closes.{Admitted, OnceUnder, ClosesUnder, Steady};
 use answers::Answer;
+use answers::limits::HEADER_WORDS;
+use answers::refusals::CONTRADICTORY;
+use answers::refuse;
+use answers::rooms::table_room;
+use answers::succeed;
 use headers::Header;
-use headers::HeaderFound;
 use sweeps::Swept;
 
-// The refusal of a closing: the largest closed table has an empty cell.
-const CONTRADICTORY: u8 = 7;
-
-// Closes a table of the right number of cells, by a working copy of it.
-fn close_by_copy(h: Header, words: &[u16], table: &mut [u8], cells: &mut [u8]) -> Answer
-    requires { ⌜ (Good h ≡ descriptionFound (now words)) × Working (h .boards) (now table) (now cells) ⌝ }
-    ensures { λ a. ⌜ outcome a (now (table .exit)) ≡ close (now (words .entry)) (now (table .entry)) ⌝ }
+// Follows rules 1, 4 and 5, which need no second look, and says how many relations they struck.
+fn strike_once(h: Header, words: &[u16], cells: &mut [u8]) -> u32
+    requires { ⌜ Admitted h (now words) (now cells) ⌝ }
+    ensures { λ n. ⌜ OnceUnder (now (words .entry)) (now (cells .entry)) (now (cells .exit)) n ⌝ }
 {
-    if !copies::copied(table, cells) {
-        return Answer {
-            number: tables::NO_TABLE,
-            count: 0,
-        };
-    }
-    let Swept::Struck(struck) = settling::settle(h, words, cells) else {
-        return Answer {
-            number: CONTRADICTORY,
-            count: 0,
-        };
-    };
-    copies::copy(cells, table);
-    Answer {
-        number: 0,
-        count: struck,
-    }
+    let v = h.boards;
+    let kinds_at = h.kinds.at;
+    let by_boards = once::rules1(v, cells);
+    let by_lines = once::rules4(v, h.lines.count, &words[HEADER_WORDS..kinds_at], cells);
+    let by_kinds = walks::rules5(v, h.kinds.count, &words[kinds_at..], cells);
+    let struck = by_boards + by_lines + by_kinds;
+    struck
 }
 
-// Replaces the lent table by the largest closed table inside it, and answers how many relations that struck. Refuses a description with 1 to 5, then a
-// table that is none of as many boards with 6, then with 7 where the largest closed table has an empty cell; and then leaves the table as it came.
-pub fn close(words: &[u16], table: &mut [u8]) -> Answer
+// Closes cells that lie inside a closed table: there rules 1, 4 and 5 strike nothing. After `Emptied` the cells are of no use.
+pub fn close_again(h: Header, words: &[u16], cells: &mut [u8]) -> Swept
+    requires { ⌜ Admitted h (now words) (now cells) × Steady (now words) (now cells) ⌝ }
+    ensures { λ r. ⌜ ClosesUnder (now (words .entry)) (now (cells .entry)) (now (cells .exit)) r ⌝ }
+{
+    let kinds_at = h.kinds.at;
+    rounds::rounds(h.boards, h.kinds.count, &words[kinds_at..], cells)
+}
+
+// Closes cells under the description that the words mean; h is its header. After `Emptied` the cells are of no use.
+pub fn close_cells(h: Header, words: &[u16], cells: &mut [u8]) -> Swept
+    requires { ⌜ Admitted h (now words) (now cells) ⌝ }
+    ensures { λ r. ⌜ ClosesUnder (now (words .entry)) (now (cells .entry)) (now (cells .exit)) r ⌝ }
+{
+    let first = strike_once(h, words, cells);
+    let Swept::Struck(more) = close_again(h, words, cells) else {
+        return Swept::Emptied;
+    };
+    let struck = first + more;
+    Swept::Struck(struck)
+}
+
+// Closes the table by a working copy of it, so that a refusal leaves the table as it came.
+fn close_by_copy(h: Header, words: &[u16], table: &mut [u8], cells: &mut [u8]) -> Answer
+    requires { ⌜ Admitted h (now words) (now table) × (length (now cells) ≡ length (now table)) ⌝ }
     ensures { λ a. ⌜ outcome a (now (table .exit)) ≡ close (now (words .entry)) (now (table .entry)) ⌝ }
 {
-    let h = match sheet::description(words) {
-        HeaderFound::Good(h) => h,
-        HeaderFound::Refused(r) => {
-            return Answer {
-                number: r.number,
-                count: 0,
-            };
-        }
+    tables::copy(table, cells);
+    let Swept::Struck(struck) = close_cells(h, words, cells) else {
+        return refuse(CONTRADICTORY, 0);
     };
-    let n = h.boards * h.boards;
-    if table.len() != n {
-        return Answer {
-            number: tables::NO_TABLE,
-            count: 0,
-        };
-    }
-    let mut cells = copies::room();
-    close_by_copy(h, words, table, &mut cells[..n])
+    tables::copy(cells, table);
+    succeed(struck)
+}
+
+// Replaces a table that was admitted by the largest closed table inside it, and answers how many relations that struck. Refuses with 7 where the
+// largest closed table has an empty cell, and then leaves the table as it came.
+pub fn close_table(h: Header, words: &[u16], table: &mut [u8]) -> Answer
+    requires { ⌜ Admitted h (now words) (now table) ⌝ }
+    ensures { λ a. ⌜ outcome a (now (table .exit)) ≡ close (now (words .entry)) (now (table .entry)) ⌝ }
+{
+    let n = table.len();
+    let mut room = table_room();
+    close_by_copy(h, words, table, &mut room[..n])
 }

@@ -8,33 +8,29 @@ use Rattle.talung.proofs.Packing.{unpacks, unpacks-read}
 use Rattle.talung.proofs.Numbers.{reading-numbered, fresh-numbered, close-numbered, searching-numbered, check-numbered}
 use Rattle.listing.specs.Listings.{inputLine, listing as prints}
 use Rattle.listing.specs.Pages.{page}
-use Rattle.sheet.proofs.Determined.{read-asks-nothing}
-use Rattle.tables.proofs.Determined.{fresh-asks-nothing}
-use Rattle.closing.proofs.Determined.{close-asks-nothing}
-use Rattle.search.proofs.Determined.{search-asks-nothing}
-use Rattle.checking.proofs.Determined.{check-asks-nothing}
+use Rattle.solver.proofs.Determined.{read-asks-nothing, fresh-asks-nothing, close-asks-nothing, search-asks-nothing, check-asks-nothing}
 use Rattle.talung.proofs.Determined.{talung-read-asks-nothing, talung-fresh-asks-nothing, talung-close-asks-nothing, talung-search-asks-nothing, talung-check-asks-nothing}
 use Rattle.listing.proofs.Determined.{listing-asks-nothing, unread-asks-nothing}
-use Rattle.sheet.proofs.read.Kinds as read-kinds
-use Rattle.sheet.proofs.read.Reads as read
-use Rattle.sheet.proofs.read.Statement as read-stated
-use Rattle.sheet.proofs.read.Met as read-met
-use Rattle.tables.proofs.fresh.Kinds as fresh-kinds
-use Rattle.tables.proofs.fresh.Reads as fresh
-use Rattle.tables.proofs.fresh.Statement as fresh-stated
-use Rattle.tables.proofs.fresh.Met as fresh-met
-use Rattle.closing.proofs.close.Kinds as close-kinds
-use Rattle.closing.proofs.close.Reads as close
-use Rattle.closing.proofs.close.Statement as close-stated
-use Rattle.closing.proofs.close.Met as close-met
-use Rattle.search.proofs.search.Kinds as search-kinds
-use Rattle.search.proofs.search.Reads as search
-use Rattle.search.proofs.search.Statement as search-stated
-use Rattle.search.proofs.search.Met as search-met
-use Rattle.checking.proofs.check.Kinds as check-kinds
-use Rattle.checking.proofs.check.Reads as check
-use Rattle.checking.proofs.check.Statement as check-stated
-use Rattle.checking.proofs.check.Met as check-met
+use Rattle.solver.proofs.read.Kinds as read-kinds
+use Rattle.solver.proofs.read.Reads as read
+use Rattle.solver.proofs.read.Statement as read-stated
+use Rattle.solver.proofs.read.Met as read-met
+use Rattle.solver.proofs.fresh.Kinds as fresh-kinds
+use Rattle.solver.proofs.fresh.Reads as fresh
+use Rattle.solver.proofs.fresh.Statement as fresh-stated
+use Rattle.solver.proofs.fresh.Met as fresh-met
+use Rattle.solver.proofs.close.Kinds as close-kinds
+use Rattle.solver.proofs.close.Reads as close
+use Rattle.solver.proofs.close.Statement as close-stated
+use Rattle.solver.proofs.close.Met as close-met
+use Rattle.solver.proofs.search.Kinds as search-kinds
+use Rattle.solver.proofs.search.Reads as search
+use Rattle.solver.proofs.search.Statement as search-stated
+use Rattle.solver.proofs.search.Met as search-met
+use Rattle.solver.proofs.check.Kinds as check-kinds
+use Rattle.solver.proofs.check.Reads as check
+use Rattle.solver.proofs.check.Statement as check-stated
+use Rattle.solver.proofs.check.Met as check-met
 use Rattle.talung.proofs.talung_read.Kinds as c-read-kinds
 use Rattle.talung.proofs.talung_read.Reads as c-read
 use Rattle.talung.proofs.talung_read.Statement as c-read-stated

@@ -22,9 +22,9 @@ use Rattle.clauses.specs.Clauses.{Description, Writes, Solves}
 use Rattle.clauses.proofs.Written.{read-writes}
 use Rattle.clauses.proofs.Spelling.{written-once, one-run, writes-means}
 use Rattle.clauses.proofs.Constraints.{solved-iff, unsolvable-iff}
-use Rattle.answers.specs.Answers.{numbered}
+use Rattle.answers.specs.Answers.{answered}
 use Rattle.answers.proofs.Outcomes.{outcome-determined}
-use Rattle.tables.proofs.Freshness.{fresh-no-boards, fresh-no-cells, fresh-full}
+use Rattle.rules.proofs.Freshness.{fresh-no-boards, fresh-no-cells, fresh-full}
 use Rattle.demands.specs.Entries.{Reads, Freshens, Closing, Searching, Checking, Call, searches}
 use Rattle.demands.specs.Published.{WriteOnly, OfPublished}
 use Rattle.demands.specs.Runs.{sheets}
@@ -40,11 +40,11 @@ demand-1 =
       malformed-description-refused = λ ws t a w call. gives-description ws t a w (call-gives ws t a w call);
       malformed-table-refused = λ ws t a w call. gives-table ws t a w (call-gives ws t a w call);
       refusal-leaves-table = λ ws t a w call. gives-leaves ws t a w (call-gives ws t a w call);
-      malformed-description-told = λ ws a call n e. call ∙ ap numbered (reading-refused ws n e);
-      good-description-told = λ ws a call s e. call ∙ ap numbered (reading-good ws s e);
-      fresh-boards-refused = λ v t a w call f. refuses t a w (call ∙ sym (fresh-no-boards v t f));
-      fresh-cells-refused = λ v t a w call l m f. refuses t a w (call ∙ sym (fresh-no-cells v t l m f));
-      fresh-fills = λ v t a w call l m e. outcome-determined a (numbered 0) w _ (call ∙ sym (fresh-full v t l m e));
+      malformed-description-told = λ ws a call n e. call ∙ ap (λ (n : ℕ). answered n 0) (reading-refused ws n e);
+      good-description-told = λ ws a call s e. call ∙ ap (λ (n : ℕ). answered n 0) (reading-good ws s e);
+      fresh-boards-refused = λ v t a w call f. refuses t a w (call ∙ fresh-no-boards v t f);
+      fresh-cells-refused = λ v t a w call l m f. refuses t a w (call ∙ fresh-no-cells v t l m f);
+      fresh-fills = λ v t a w call l m e. outcome-determined a (answered 0 0) w _ (call ∙ fresh-full v t l m e);
     }
 
 -- ---- arrangements, trees and published constraints

@@ -21,7 +21,7 @@ use Rattle.answers.specs.declared.Answer.{Answer}
 use Rattle.answers.specs.Answers.{outcome}
 use Rattle.demands.specs.Entries.{Closing}
 use Rattle.demands.specs.Runs.{Stage, sheets, contradictory, Called}
-use Rattle.closing.proofs.Calling.{by-cells, close-good}
+use Rattle.rules.proofs.Called.{by-cells, close-good}
 
 -- what an answer says and what is left, by whether the largest closed table has an empty cell
 pub record Ends (s : Sheet) (t : List ℕ) (a : Answer) (w : List ℕ) (b : Bool) : Type 0 where
@@ -33,21 +33,21 @@ pub record Ends (s : Sheet) (t : List ℕ) (a : Answer) (w : List ℕ) (b : Bool
 
 module _ (ws : List ℕ) (s : Sheet) (means : read ws ≡ good s) (t : List ℕ) (table : Table (s .boards) t) (a : Answer) (w : List ℕ) (call : Closing ws t a w) where
   pub ends : (b : Bool) × Ends s t a w b
-  ends = go (emptied (closing s t)) refl (call ∙ close-good ws t s means table)
+  ends = go (emptied (closing s t)) refl (call ∙ close-good t ws s means table)
     where
-      at-end : (b : Bool) → emptied (closing s t) ≡ b → outcome a w ≡ by-cells ws t s b → (p : left b t (closing s t) ≡ by-cells ws t s b .table)
-          → (eqb (by-cells ws t s b .number) 7 ≡ b) → (by-cells ws t s b .number ≡ elim b [ true ↦ 7 | false ↦ 0 ])
-          → (by-cells ws t s b .count ≡ elim b [ true ↦ 0 | false ↦ strikes t (closing s t) ]) → Ends s t a w b
+      at-end : (b : Bool) → emptied (closing s t) ≡ b → outcome a w ≡ by-cells t s b → (p : left b t (closing s t) ≡ by-cells t s b .lent)
+          → (eqb (by-cells t s b .number) 7 ≡ b) → (by-cells t s b .number ≡ elim b [ true ↦ 7 | false ↦ 0 ])
+          → (by-cells t s b .count ≡ elim b [ true ↦ 0 | false ↦ strikes t (closing s t) ]) → Ends s t a w b
       at-end b e o p q n c =
           record {
             empty = e;
-            leaves = ap (λ (o : Outcome). o .table) o ∙ sym p;
-            says = ap (λ (o : Outcome). eqb (o .number) 7) o ∙ q;
-            number = ap (λ (o : Outcome). o .number) o ∙ n;
-            count = ap (λ (o : Outcome). o .count) o ∙ c;
+            leaves = ap (λ (o : Outcome (List ℕ)). o .lent) o ∙ sym p;
+            says = ap (λ (o : Outcome (List ℕ)). eqb (o .number) 7) o ∙ q;
+            number = ap (λ (o : Outcome (List ℕ)). o .number) o ∙ n;
+            count = ap (λ (o : Outcome (List ℕ)). o .count) o ∙ c;
           }
 
-      go : (b : Bool) → emptied (closing s t) ≡ b → outcome a w ≡ by-cells ws t s b → (b : Bool) × Ends s t a w b
+      go : (b : Bool) → emptied (closing s t) ≡ b → outcome a w ≡ by-cells t s b → (b : Bool) × Ends s t a w b
       go true e o = (true, at-end true e o refl refl refl refl)
       go false e o = (false, at-end false e o refl refl refl refl)
 

@@ -6,27 +6,25 @@ use mathlib.Core.Bool.{Bool, true, false}
 use mathlib.Core.List.{List}
 use Prim.Native.Nat.{ℕ, _≤_, _<_}
 use native.Mathlib.Omega.{arith}
-use lib.Dec.{T, T-not}
+use lib.Dec.{T}
 use Rattle.rules.specs.Descriptions.{Sheet, Reading, good, refused, read}
-use Rattle.rules.specs.Tables.{Table}
+use Rattle.rules.specs.Tables.{Table, filled}
 use Rattle.rules.specs.Arrangements.{Arrangement}
 use Rattle.rules.specs.Search.{Order, End, found, none, tries, ended, ranOut, cap, Least, Nowhere}
-use Rattle.rules.specs.Calls.{wellFormed, answer, searching, arranged}
-use Rattle.rules.specs.Cases.{filled}
-use Rattle.rules.proofs.Tests.{true-T, T-decide}
+use Rattle.rules.specs.Calls.{admitted, answer, searching, arranged}
+use Rattle.rules.proofs.Tests.{true-T}
 use Rattle.rules.proofs.Descriptions.{read-wellFormed}
-use Rattle.rules.proofs.Calls.{table-wellFormed, wellFormed-table, arrangement-arranged, arranged-arrangement}
+use Rattle.rules.proofs.Calls.{admitted-out, arrangement-arranged, arranged-arrangement}
 use Rattle.rules.proofs.Largest.{closing-largest}
 use Rattle.rules.proofs.Search.{search-found, search-none, cap-case, cap-more}
 use Rattle.boards.proofs.Made.{full-table}
 use Rattle.answers.specs.declared.Answer.{Answer}
 use Rattle.answers.specs.Answers.{outcome}
 use Rattle.answers.proofs.Outcomes.{says, counts, leaves}
-use Rattle.search.proofs.Searching.{search-refused, search-no-table, search-good}
+use Rattle.rules.proofs.Called.{search-refused, search-good, by-test, check-good}
 use Rattle.demands.specs.Entries.{Searching, Checking, checks}
 use Rattle.demands.specs.Sentences.{stated, Arranges}
 use Rattle.demands.proofs.Refusing.{call-gives, gives-good}
-use Rattle.checking.proofs.Checking.{by-test, check-good}
 
 -- two numbers that differ are not both the answer's
 unlike : {X : Type 0} {m n k : ℕ} → m ≡ n → m ≡ k → (n ≡ k → ⊥) → X
@@ -56,7 +54,7 @@ search-ends ord ws s means t table b a w call =
     ⊎-elim (λ d. enough (stated ord s t) refl (d .0) (d .1)) (λ d. inr (inr (spent (d .0) (d .1)))) (cap-case b (stated ord s t))
   where
     is : outcome a w ≡ answer t (cap b (stated ord s t))
-    is = call ∙ search-good ord ws t b s means table
+    is = call ∙ search-good t ws s means table ord b
 
     spent : b < tries (stated ord s t) → cap b (stated ord s t) ≡ ranOut b → Spent (stated ord s t) b t a w
     spent h c = let o = is ∙ ap (answer t) c in record { more = h; number = says o; count = counts o; table = leaves o }
@@ -101,23 +99,19 @@ module _ {e : End} {b : ℕ} {t : List ℕ} {a : Answer} {w : List ℕ} (ways : 
 -- a larger budget comes to the same, unless the smaller one ran out
 pub budget-more : (ord ws t : List ℕ) (b c : ℕ) → b ≤ c → (a : Answer) (u : List ℕ) → Searching ord ws t b a u → (a .number ≡ 9 → ⊥)
     → searching ord ws t b ≡ searching ord ws t c
-budget-more ord ws t b c l a u call n = by-reading (read ws) refl
+budget-more ord ws t b c l a u call n = by-opening (admitted ws t) refl
   where
     enough : (s : Sheet) → outcome a u ≡ answer t (cap b (stated ord s t)) → cap b (stated ord s t) ≡ cap c (stated ord s t)
     enough s is =
         ⊎-elim (λ d. d .1 ∙ sym (cap-more b c (stated ord s t) (stated ord s t) l (d .1))) (λ d. absurd (n (says (is ∙ ap (answer t) (d .1)))))
         (cap-case b (stated ord s t))
 
-    by-reading : (r : Reading Sheet) → read ws ≡ r → searching ord ws t b ≡ searching ord ws t c
-    by-reading (good s) e =
-        ⊎-elim
-        (λ h. let k = wellFormed-table (s .boards) t h in
-        let p = search-good ord ws t b s e k in
-        p ∙ ap (answer t) (enough s (call ∙ p)) ∙ sym (search-good ord ws t c s e k))
-        (λ h. let k : (Table (s .boards) t → ⊥) = λ g. T-not (wellFormed (s .boards) t) h (table-wellFormed (s .boards) t g) in
-        sym (search-no-table ord ws t b s e k) ∙ search-no-table ord ws t c s e k)
-        (T-decide (wellFormed (s .boards) t))
-    by-reading (refused m) e = sym (search-refused ord ws t b m e) ∙ search-refused ord ws t c m e
+    by-opening : (r : Reading Sheet) → admitted ws t ≡ r → searching ord ws t b ≡ searching ord ws t c
+    by-opening (good s) e =
+        let k = admitted-out ws t s e in
+        let p = search-good t ws s (k .0) (k .1) ord b in
+        p ∙ ap (answer t) (enough s (call ∙ p)) ∙ sym (search-good t ws s (k .0) (k .1) ord c)
+    by-opening (refused m) e = search-refused t ws ord b e ∙ sym (search-refused t ws ord c e)
 
 -- what the search finds is the first arrangement; it says none where there is none
 module _ {ord : List ℕ} (order : Order ord) (ws : List ℕ) (s : Sheet) (means : read ws ≡ good s) (t : List ℕ) (table : Table (s .boards) t) (n : ℕ) where
@@ -156,9 +150,9 @@ module _ {ord : List ℕ} (order : Order ord) (ws : List ℕ) (s : Sheet) (means
 -- a check answers by whether the table is an arrangement
 pub check-ends : (ws : List ℕ) (s : Sheet) → read ws ≡ good s → (t : List ℕ) → Table (s .boards) t → (a : Answer) → Checking ws t a
     → ((a .number ≡ 0) × Arrangement s t) ⊎ ((a .number ≡ 10) × (Arrangement s t → ⊥))
-check-ends ws s means t table a call = by (arranged s t) refl (call ∙ check-good ws t s means table)
+check-ends ws s means t table a call = by (arranged s t) refl (call ∙ check-good t ws s means table)
   where
-    by : (b : Bool) → arranged s t ≡ b → outcome a t ≡ by-test ws t b → ((a .number ≡ 0) × Arrangement s t) ⊎ ((a .number ≡ 10) × (Arrangement s t → ⊥))
+    by : (b : Bool) → arranged s t ≡ b → outcome a t ≡ by-test t b → ((a .number ≡ 0) × Arrangement s t) ⊎ ((a .number ≡ 10) × (Arrangement s t → ⊥))
     by true e o = inl (says o, arranged-arrangement (read-wellFormed ws s means) table (true-T e))
     by false e o = inr (says o, λ r. subst T e (arrangement-arranged (read-wellFormed ws s means) r))
 

@@ -11,7 +11,7 @@ use Rattle.rules.specs.Tables.{Table, emptied}
 use Rattle.rules.specs.Closed.{strikes}
 use Rattle.rules.specs.Closing.{closing}
 use Rattle.rules.specs.Search.{found, none, Capped, ended, ranOut, search, cap}
-use Rattle.rules.specs.Calls.{Outcome, refuse, succeed, wellFormed, given, reading, close, answer, searching, arranged, check}
+use Rattle.rules.specs.Calls.{Outcome, refuse, succeed, wellFormed, admitted, given, reading, close, answer, searching, arranged, check}
 use Rattle.rules.proofs.Descriptions.{read-numbered}
 use Rattle.rules.proofs.Tests.{T-decide}
 use Rattle.rules.proofs.Calls.{table-wellFormed, wellFormed-table, given-refused, given-no-table, given-good}
@@ -33,14 +33,14 @@ pub refuses : (t : List ℕ) (a : Answer) (w : List ℕ) {n : ℕ} → outcome a
 refuses t a w e = record { number = says e; count = counts e; table = leaves e }
 
 -- what it answers and leaves once description and table are good: a refusal leaves the table
-abbrev Leaves : List ℕ → Outcome → Type 0
-Leaves t o = (o .number ≡ 0 → ⊥) → o .table ≡ t
+abbrev Leaves : List ℕ → Outcome (List ℕ) → Type 0
+Leaves t o = (o .number ≡ 0 → ⊥) → o .lent ≡ t
 
 -- the call gives 1 to 5, then 6, then what f says
 pub record Gives (ws t : List ℕ) (a : Answer) (w : List ℕ) : Type 0 where
-  pub f : Sheet → Outcome
+  pub f : Sheet → Outcome (List ℕ)
   pub leaves : (s : Sheet) → Leaves t (f s)
-  pub is : outcome a w ≡ given ws t f
+  pub is : outcome a w ≡ given (admitted ws t) t f
 
 module _ (ws t : List ℕ) where
   closing-leaves : (s : Sheet) (b : Bool) → Leaves t (elim b [ true ↦ refuse 7 0 t | false ↦ succeed (strikes t (closing s t)) (closing s t) ])
@@ -65,10 +65,10 @@ module _ (ws t : List ℕ) where
 
     module _ (g : Gives ws t a w) where
       pub gives-description : (n : ℕ) → read ws ≡ refused n → Refuses n t a w
-      gives-description n e = refuses t a w (g .is ∙ given-refused ws t (g .f) n e)
+      gives-description n e = refuses t a w (g .is ∙ given-refused ws t t (g .f) n e)
 
       pub gives-table : (s : Sheet) → read ws ≡ good s → (Table (s .boards) t → ⊥) → Refuses 6 t a w
-      gives-table s e n = refuses t a w (g .is ∙ given-no-table ws t (g .f) s e n)
+      gives-table s e n = refuses t a w (g .is ∙ given-no-table ws t t (g .f) s e n)
 
       pub gives-leaves : (a .number ≡ 0 → ⊥) → w ≡ t
       gives-leaves n = by (read ws) refl
@@ -76,7 +76,7 @@ module _ (ws t : List ℕ) where
           by : (r : Reading Sheet) → read ws ≡ r → w ≡ t
           by (good s) e =
               ⊎-elim
-              (λ h. let is = g .is ∙ given-good ws t (g .f) s e (wellFormed-table (s .boards) t h) in leaves is ∙ g .leaves s (λ z. n (says is ∙ z)))
+              (λ h. let is = g .is ∙ given-good ws t t (g .f) s e (wellFormed-table (s .boards) t h) in leaves is ∙ g .leaves s (λ z. n (says is ∙ z)))
               (λ h. gives-table s e (λ k. T-not (wellFormed (s .boards) t) h (table-wellFormed (s .boards) t k)) .table)
               (T-decide (wellFormed (s .boards) t))
           by (refused k) e = gives-description k e .table

@@ -10,13 +10,13 @@ use lib.Dec.{T}
 use lib.ListN.{getD}
 use Rattle.rules.specs.Relations.{relations, above, has, setTo, setOf, full, meet, join, complement, within, size, opposite, converse, singles, composed, compose}
 use Rattle.rules.specs.Expressions.{codes, code, follow, evaluate, expression}
-use Rattle.rules.specs.Descriptions.{Sheet, good, relationLine, kindLine, section, numbersFit, offsetsFit, relationLines, kindLines, read}
-use Rattle.rules.specs.Tables.{Table, emptied, total}
+use Rattle.rules.specs.Descriptions.{Sheet, good, relationLine, kindLine, section, numbersFit, offsetsFit, relationLines, kindLines, read, describe}
+use Rattle.rules.specs.Tables.{Table, emptied, total, filled}
 use Rattle.rules.specs.Closing.{reaches, agree, bound6, bound6′, bound7, bound7′, rules1, rules2, rules3, rules4, rules5, rules6, rules7, rules, strike, sweep, sweeps, closing}
 use Rattle.rules.specs.Search.{plainOrder, End, found, tries, attempt, choose, places, search}
 use Rattle.rules.specs.Stages.{Among, Stages}
 use Rattle.rules.specs.Calls.{wellFormed, arranged}
-use Rattle.rules.specs.Cases.{describe, filled, is, atOrAbove}
+use Rattle.rules.specs.Cases.{is, atOrAbove}
 use Rattle.rules.proofs.Tests.{true-T}
 use Rattle.rules.proofs.Descriptions.{read-wellFormed}
 use Rattle.rules.proofs.Largest.{closing-largest}

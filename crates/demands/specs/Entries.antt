@@ -4,11 +4,11 @@ use mathlib.Core.List.{List}
 use Prim.Native.Nat.{ℕ}
 use Rattle.rules.specs.Calls.{reading, fresh, close, searching, check}
 use Rattle.answers.specs.declared.Answer.{Answer}
-use Rattle.answers.specs.Answers.{numbered, outcome}
+use Rattle.answers.specs.Answers.{answered, outcome}
 
 -- reading the words ws may answer a
 abbrev pub Reads : List ℕ → Answer → Type 0
-Reads ws a = a ≡ numbered (reading ws)
+Reads ws a = a ≡ answered (reading ws) 0
 
 -- the fresh table of v boards may answer a and leave w of the lent table t
 abbrev pub Freshens : ℕ → List ℕ → Answer → List ℕ → Type 0

@@ -7,17 +7,16 @@ use Prim.Native.Nat.{ℕ, _+_, _*_, _≤_, _<_}
 use lib.Dec.{T}
 use lib.ListN.{length}
 use Rattle.rules.specs.Descriptions.{mostBoards, Sheet, good, refused, read}
-use Rattle.rules.specs.Tables.{Table, Inside, emptied, total}
+use Rattle.rules.specs.Tables.{Table, Inside, emptied, total, filled}
 use Rattle.rules.specs.Arrangements.{Arrangement}
 use Rattle.rules.specs.Closed.{Largest}
 use Rattle.rules.specs.Closing.{closing}
 use Rattle.rules.specs.Search.{End, tries, search, Least, Nowhere}
 use Rattle.rules.specs.Stages.{Stages}
-use Rattle.rules.specs.Cases.{filled}
 use Rattle.trees.specs.Trees.{DrawnFrom, NoTree}
 use Rattle.clauses.specs.Clauses.{Solves, Unsolvable}
 use Rattle.answers.specs.declared.Answer.{Answer}
-use Rattle.answers.specs.Answers.{numbered}
+use Rattle.answers.specs.Answers.{answered}
 use Rattle.demands.specs.Entries.{Refuses}
 use Rattle.demands.specs.Published.{OfPublished}
 use Rattle.demands.specs.Runs.{Stage, sheets, contradictory, Called}
@@ -51,12 +50,12 @@ pub record Demand1 (Reads : List ℕ → Answer → Type 0) (Freshens : ℕ → 
   -- a refusal leaves the lent table as it came.
   pub refusal-leaves-table : EachCall Calls (λ ws t a w. (a .number ≡ 0 → ⊥) → w ≡ t)
   -- The reader, which is lent no table, refuses by the same numbers, and takes every other description.
-  pub malformed-description-told : (ws : List ℕ) (a : Answer) → Reads ws a → (n : ℕ) → read ws ≡ refused n → a ≡ numbered n
-  pub good-description-told : (ws : List ℕ) (a : Answer) → Reads ws a → (s : Sheet) → read ws ≡ good s → a ≡ numbered 0
+  pub malformed-description-told : (ws : List ℕ) (a : Answer) → Reads ws a → (n : ℕ) → read ws ≡ refused n → a ≡ answered n 0
+  pub good-description-told : (ws : List ℕ) (a : Answer) → Reads ws a → (s : Sheet) → read ws ≡ good s → a ≡ answered 0 0
   -- The fresh table refuses a number of boards out of range with 1, then a wrong number of cells with 6, and leaves the table as it came; else it is full.
   pub fresh-boards-refused : EachFresh Freshens (λ v t a w. (1 ≤ v → v ≤ mostBoards → ⊥) → Refuses 1 t a w)
   pub fresh-cells-refused : EachFresh Freshens (λ v t a w. 1 ≤ v → v ≤ mostBoards → (length t ≡ v * v → ⊥) → Refuses 6 t a w)
-  pub fresh-fills : EachFresh Freshens (λ v t a w. 1 ≤ v → v ≤ mostBoards → length t ≡ v * v → (a ≡ numbered 0) × (w ≡ filled v))
+  pub fresh-fills : EachFresh Freshens (λ v t a w. 1 ≤ v → v ≤ mostBoards → length t ≡ v * v → (a ≡ answered 0 0) × (w ≡ filled v))
 
 -- ==== Demand 2
 

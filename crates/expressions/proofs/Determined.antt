@@ -3,11 +3,6 @@ use mathlib.Core.Path.{sym, _∙_}
 use Rattle.contracts.specs.Contracts.{OneResult}
 use Rattle.expressions.proofs.evaluate.Kinds as evaluate-kinds
 use Rattle.expressions.proofs.evaluate.Reads as evaluate
-use Rattle.expressions.proofs.words.wide.Kinds as wide-kinds
-use Rattle.expressions.proofs.words.wide.Reads as wide
 
 pub evaluate-determined : OneResult 1 evaluate-kinds.ps evaluate-kinds.r evaluate.Asked evaluate.Learnt
 evaluate-determined κs a asked x y d e p q = p ∙ sym q
-
-pub wide-determined : OneResult 0 wide-kinds.ps wide-kinds.r wide.Asked wide.Learnt
-wide-determined κs a asked x y d e p q = p ∙ sym q

@@ -1,3 +1,4 @@
 -- The laws behind the functions of this crate.
+pub mod Codes
 pub mod Evaluation
 pub mod Determined

@@ -1,13 +1,13 @@
 // Expressions in prefix order.
-pub mod words;
-
 ghost use mathlib.Core.Path.{_≡_};
-ghost use Prim.Native.Nat.{_≤_};
+ghost use Prim.Native.Nat.{_≤_, _<_};
 ghost use lib.ListN.{length};
-ghost use Rattle.rules.specs.Descriptions.{mostWords};
-ghost use Rattle.rules.specs.Expressions.{expression};
+ghost use Rattle.rules.specs.Relations.{setLimit};
+ghost use Rattle.rules.specs.Descriptions.{mostExpressionWords};
+ghost use Rattle.rules.specs.Expressions.{relation, codes, code, expression};
+ghost use Rattle.expressions.specs.Codes.{operands, unary, binary};
 ghost use Rattle.expressions.specs.Found.{expressionFound};
-use crate::words::wide;
+use answers::widths::word_number;
 
 // What stands at the front of some words: a set and the number of words after its expression, or no expression.
 pub enum Expression {
@@ -15,47 +15,95 @@ pub enum Expression {
     Malformed,
 }
 
-// Codes 0 to 3 stand for these sets.
-const RELATIONS: [u8; 4] = [relations::E, relations::A, relations::B, relations::S];
+// How many codes there are.
+const CODES: usize = 8;
 
-// 4 is union and 5 intersection, with two operands; 6 is complement and 7 inverse, with one.
-const UNION: u16 = 4;
+// How many operands each code takes: none where it stands for a set.
+const OPERANDS: [u8; CODES] = [0, 0, 0, 0, 2, 2, 1, 1];
 
-const COMPLEMENT: u16 = 6;
+// The set that each code stands for; nothing for an operator.
+const SETS: [u8; CODES] = [
+    relations::E,
+    relations::A,
+    relations::B,
+    relations::S,
+    0, // union
+    0, // intersection
+    0, // complement
+    0, // inverse
+];
 
-const INVERSE: u16 = 7;
+// The code of union; the other operator with two operands is intersection.
+const UNION: usize = 4;
+
+// The code of complement; the other operator with one operand is inverse.
+const COMPLEMENT: usize = 6;
+
+// How many operands a code takes.
+fn operands(word: usize) -> u8
+    requires { ⌜ word < length codes ⌝ }
+    ensures { λ n. ⌜ n ≡ operands (code word) ⌝ }
+{
+    OPERANDS[word]
+}
+
+// The set that a code without operands stands for.
+fn set_of(word: usize) -> u8
+    requires { ⌜ (word < length codes) × (operands (code word) ≡ 0) ⌝ }
+    ensures { λ x. ⌜ code word ≡ relation x ⌝ }
+{
+    SETS[word]
+}
+
+// What an operator makes of its one operand.
+fn apply_one(word: usize, x: u8) -> u8
+    requires { ⌜ (word < length codes) × (operands (code word) ≡ 1) × (x < setLimit) ⌝ }
+    ensures { λ z. ⌜ z ≡ unary (code word) x ⌝ }
+{
+    if word == COMPLEMENT {
+        relations::complement(x)
+    } else {
+        relations::converse(x)
+    }
+}
+
+// What an operator makes of its two operands.
+fn apply_two(word: usize, x: u8, y: u8) -> u8
+    requires { ⌜ (word < length codes) × (operands (code word) ≡ 2) × (x < setLimit) × (y < setLimit) ⌝ }
+    ensures { λ z. ⌜ z ≡ binary (code word) x y ⌝ }
+{
+    if word == UNION {
+        relations::join(x, y)
+    } else {
+        relations::meet(x, y)
+    }
+}
 
 // Reads the expression at the front of the words: an operator is followed by its operands, each a whole expression.
 pub fn evaluate(words: &[u16]) -> Expression
-    requires { ⌜ length (now words) ≤ mostWords ⌝ }
+    requires { ⌜ length (now words) ≤ mostExpressionWords ⌝ }
     ensures { λ r. ⌜ r ≡ expressionFound (expression (now (words .entry))) ⌝ }
 {
     if words.len() == 0 {
         return Expression::Malformed;
     }
-    let code = words[0];
-    if code < UNION {
-        return Expression::Set(RELATIONS[wide(code)], words.len() - 1);
-    }
-    if INVERSE < code {
+    let word = word_number(words[0]);
+    if CODES <= word {
         return Expression::Malformed;
+    }
+    let n = operands(word);
+    if n == 0 {
+        return Expression::Set(set_of(word), words.len() - 1);
     }
     let Expression::Set(x, left) = evaluate(&words[1..]) else {
         return Expression::Malformed;
     };
-    if code == COMPLEMENT {
-        return Expression::Set(relations::complement(x), left);
-    }
-    if code == INVERSE {
-        return Expression::Set(relations::converse(x), left);
+    if n == 1 {
+        return Expression::Set(apply_one(word, x), left);
     }
     let second = words.len() - left;
     let Expression::Set(y, rest) = evaluate(&words[second..]) else {
         return Expression::Malformed;
     };
-    if code == UNION {
-        Expression::Set(relations::join(x, y), rest)
-    } else {
-        Expression::Set(relations::meet(x, y), rest)
-    }
+    Expression::Set(apply_two(word, x, y), rest)
 }

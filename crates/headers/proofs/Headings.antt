@@ -6,7 +6,7 @@ use Rattle.rules.specs.Descriptions.{good, need, numbersFit, offsetsFit}
 use Rattle.rules.proofs.Readings.{need-passed, need-failed}
 use Rattle.rules.proofs.Headers.{InRange, Placed, numbers-in, numbers-out, places-in, places-out}
 use Rattle.headers.specs.declared.HeaderFound.the-variants.{Good, Refused}
-use Rattle.lines.specs.Found.{refusal}
+use Rattle.answers.specs.Answers.{refusal}
 use Rattle.headers.specs.Found.{numbers, numbersFound, headerFound}
 
 pub header-unnumbered : (ws : List ℕ) → (InRange ws → ⊥) → Refused (refusal 1) ≡ headerFound ws

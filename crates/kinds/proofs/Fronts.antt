@@ -9,11 +9,10 @@ use lib.Dec.{T, T-not}
 use lib.ListN.{length, getD, take, drop}
 use Rattle.rules.specs.Descriptions.{KindLine, Reading, good, refused, Front, boardsOnly, kindLine}
 use Rattle.rules.proofs.Tests.{clash, T-true, T-false, true-T}
-use Rattle.rules.proofs.Lines.{OnPanel, kind-read, ways-length, after-line, boardsOnly-in, boardsOnly-out}
-use Rattle.lines.specs.declared.refusals.Refusal.{Refusal}
-use Rattle.lines.specs.Found.{refusal}
+use Rattle.rules.proofs.Lines.{OnPanel, kind-read, after-line, boardsOnly-in, boardsOnly-out}
+use Rattle.answers.specs.declared.refusals.Refusal.{Refusal}
+use Rattle.answers.specs.Answers.{refusal}
 use Rattle.lines.proofs.Fronts.{part}
-use Rattle.kinds.specs.declared.KindLine as declared-kind
 use Rattle.kinds.specs.declared.KindFound.the-variants as kind
 use Rattle.kinds.specs.Found.{kindFound}
 
@@ -35,15 +34,13 @@ module _ (v k n : ℕ) (ws : List ℕ) (b : Bool) (width : k ≡ n) (tests : b �
   pub ways-granted : not b ≡ false → T (boardsOnly v (take n (drop 3 ws)))
   ways-granted q = subst T lent-ways (true-T (not-false b q))
 
-pub kind-line-found : (v : ℕ) (ws : List ℕ) → OnPanel v ws
-    → kind.Line (record { p = getD ws 0 0; code = getD ws 1 0; ways = getD ws 2 0 }) (length ws - (3 + getD ws 2 0)) ≡ kindFound (kindLine v ws)
-kind-line-found v ws o = rw (kind-read v ws o) (rw (ways-length v ws (o .fits), after-line (getD ws 2 0) ws))
+pub kind-line-found : (v : ℕ) (ws : List ℕ) → OnPanel v ws → kind.Line (length ws - (3 + getD ws 2 0)) ≡ kindFound (kindLine v ws)
+kind-line-found v ws o = rw (kind-read v ws o) (rw (after-line (getD ws 2 0) ws))
 
 -- what was found, read back
-pub kind-line-out : (r : Reading (Front KindLine)) (l : declared-kind.KindLine) (k : ℕ) → kind.Line l k ≡ kindFound r
-    → (f : Front KindLine) × (r ≡ good f) × (length (f .rest) ≡ k)
-kind-line-out (good f) l k p = (f, refl, cc)
-kind-line-out (refused n) l k p = clash (cc)
+pub kind-line-out : (r : Reading (Front KindLine)) (k : ℕ) → kind.Line k ≡ kindFound r → (f : Front KindLine) × (r ≡ good f) × (length (f .rest) ≡ k)
+kind-line-out (good f) k p = (f, refl, cc)
+kind-line-out (refused n) k p = clash (cc)
 
 pub kind-refused-out : (r : Reading (Front KindLine)) (q : Refusal) → kind.Refused q ≡ kindFound r → (n : ℕ) × (r ≡ refused n) × (q ≡ refusal n)
 kind-refused-out (good f) q p = clash (cc)

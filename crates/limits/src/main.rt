@@ -1,6 +1,9 @@
 // Reads descriptions at the limits of what is taken, and makes fresh tables of the least and the most boards, and writes what each is answered.
 mod sheets;
 
+use answers::rooms::words_room;
+use answers::widths::byte_number;
+use answers::widths::number_long;
 use libc::STDOUT_FILENO;
 
 // Writes what is said, and then the answer's number.
@@ -11,13 +14,13 @@ fn say(text: &[u8], number: u8) {
         return;
     }
     io::write_all(STDOUT_FILENO, b": refused ");
-    io::print_decimal(STDOUT_FILENO, number as u64);
+    io::print_decimal(STDOUT_FILENO, number_long(byte_number(number)));
     io::write_all(STDOUT_FILENO, b"\n");
 }
 
 // Reads the words and says what they are answered.
 fn read(text: &[u8], words: &[u16]) {
-    say(text, sheet::read(words).number);
+    say(text, solver::read(words).number);
 }
 
 // Changes a word, if there is one.
@@ -87,13 +90,14 @@ fn lay_longest(words: &mut [u16]) {
 
 // Reads the longest description with two of its words changed.
 fn changed_twice(text: &[u8], at: usize, word: u16, other: usize, other_word: u16) {
-    let mut words = [0u16; 2486];
+    let mut words = words_room();
     lay_longest(&mut words);
     put(&mut words, at, word);
     put(&mut words, other, other_word);
     read(text, &words);
 }
 
+// Reads the longest description with one of its words changed.
 fn changed_once(text: &[u8], at: usize, word: u16) {
     changed_twice(text, at, word, at, word);
 }
@@ -127,20 +131,19 @@ fn longest() {
     changed_twice(b"a bad total, 17 boards", 5, 2485, 0, 17);
 }
 
-fn wide(x: u8) -> u64 {
-    x as u64
-}
-
 // Makes the table fresh, and says what is answered and what its first and last cells hold then.
 fn fresh(text: &[u8], v: usize, table: &mut [u8]) {
-    say(text, tables::fresh(v, table).number);
+    say(text, solver::fresh(v, table).number);
     if table.len() == 0 {
         return;
     }
     io::write_all(STDOUT_FILENO, b"  first cell ");
-    io::print_decimal(STDOUT_FILENO, wide(table[0]));
+    io::print_decimal(STDOUT_FILENO, number_long(byte_number(table[0])));
     io::write_all(STDOUT_FILENO, b", last cell ");
-    io::print_decimal(STDOUT_FILENO, wide(table[table.len() - 1]));
+    io::print_decimal(
+        STDOUT_FILENO,
+        number_long(byte_number(table[table.len() - 1])),
+    );
     io::write_all(STDOUT_FILENO, b"\n");
 }
 

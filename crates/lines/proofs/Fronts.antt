@@ -12,10 +12,11 @@ use Rattle.rules.proofs.Lines.{OnBoards, relation-front, relation-read, after-l
 use Rattle.expressions.specs.declared.Expression.{Expression}
 use Rattle.expressions.specs.declared.Expression.the-variants.{Set, Malformed}
 use Rattle.expressions.proofs.Evaluation.{Finds, operand, no-operand}
-use Rattle.lines.specs.declared.refusals.Refusal.{Refusal}
+use Rattle.answers.specs.declared.refusals.Refusal.{Refusal}
+use Rattle.answers.specs.Answers.{refusal}
 use Rattle.lines.specs.declared.RelationLine as declared
 use Rattle.lines.specs.declared.RelationFound.the-variants as relation
-use Rattle.lines.specs.Found.{refusal, relationFound}
+use Rattle.lines.specs.Found.{relationFound}
 
 -- the part that code lends of a line: k words after the first three
 pub part : (k n : ℕ) → k ≡ n → 3 + k - 3 ≡ n

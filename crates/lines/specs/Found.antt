@@ -1,16 +1,11 @@
 -- What reading a relation line gives, by the definitions of a description. Assumes nothing.
-use Prim.Native.Nat.{ℕ}
 use lib.ListN.{length}
 use Rattle.rules.specs.Descriptions as descriptions
 use Rattle.rules.specs.Descriptions.{Reading, good, refused, Front}
-use Rattle.lines.specs.declared.refusals.Refusal.{Refusal}
+use Rattle.answers.specs.Answers.{refusal}
 use Rattle.lines.specs.declared.RelationLine.{RelationLine}
 use Rattle.lines.specs.declared.RelationFound.{RelationFound}
 use Rattle.lines.specs.declared.RelationFound.the-variants as relation
-
--- a refusal by its number
-abbrev pub refusal : ℕ → Refusal
-refusal n = record { number = n }
 
 -- a relation line, and the number of words after it
 abbrev pub relationFound : Reading (Front descriptions.RelationLine) → RelationFound

@@ -7,24 +7,18 @@ use native.Mathlib.Omega.{arith}
 use borrow.Author.Tests.{leb-true}
 use lib.Dec.{leb, eqb}
 use lib.ListN.{length, getD, replicate, length-append, length-replicate}
-use Rattle.rules.specs.Descriptions.{mostBoards, Sheet, Reading, good, refused, read}
-use Rattle.rules.specs.Tables.{cell, range}
+use Rattle.rules.specs.Descriptions.{mostPairs, mostBoards, Sheet, Reading, good, refused, need, next, read}
+use Rattle.rules.specs.Tables.{cell, range, filled}
 use Rattle.rules.specs.Closing.{closing}
 use Rattle.rules.specs.Search.{End, found, none, tries, ended, ranOut, plainOrder, search, cap}
-use Rattle.rules.specs.Calls.{Outcome, refuse, succeed, wellFormed, answer, searching}
-use Rattle.rules.specs.Cases.{filled}
+use Rattle.rules.specs.Calls.{Outcome, refuse, succeed, wellFormed, admitted, given, answer, searching}
 use Rattle.rules.proofs.Descriptions.{read-numbered}
-use Rattle.headers.specs.Found.{numbers, numbersFound}
-use Rattle.sheet.proofs.Described.{described}
-use Rattle.tries.specs.Tries.{mostPairs}
-use Rattle.tries.specs.Pairs.{before}
-use Rattle.tries.proofs.Walking.{places-length, pairs-most}
 use Rattle.words.specs.Words.{words}
-use Rattle.listing.specs.Listings.{mostBytes, budget, decimal, signText, lineFeed, boardsText, triesText, refusedText, inputLine, refusal, heading, pairLine, pairsOf, pairs, told, solved, listing}
+use Rattle.listing.specs.Listings.{mostBytes, budget, decimal, signText, lineFeed, boardsText, triesText, refusedText, inputLine, refusalLine, heading, pairLine, pairsOf, pairs, told, solved, listing}
 use Rattle.listing.specs.declared.Page.{Page}
 use Rattle.listing.specs.Pages.{pageBytes, page}
-use Rattle.listing.proofs.Numbers.{decimal-two, decimal-five}
-use Rattle.listing.proofs.Solving.{told-found, told-refused}
+use Rattle.listing.proofs.Decimals.{decimal-two, decimal-five}
+use Rattle.listing.proofs.Solving.{told-found, told-refused, read-in-range}
 
 -- the bytes of the longest page
 abbrev pub most : ℕ
@@ -32,8 +26,8 @@ most = 982
 
 -- ---- the lines
 
-refusal-short : (n : ℕ) → n < 100 → length (refusal n) ≤ most
-unfolding refusal
+refusal-short : (n : ℕ) → n < 100 → length (refusalLine n) ≤ most
+unfolding refusalLine
 refusal-short n h = omega (arith, length-append refusedText (decimal n ++ lineFeed), length-append (decimal n) lineFeed, decimal-two n h)
 
 heading-short : (v n : ℕ) → v < 100 → n < 100000 → length (heading v n) ≤ 22
@@ -61,6 +55,20 @@ pair-short v t p q h l =
       decimal-two q l,
     )
 
+-- how many pairs n boards have
+pairsAmong : ℕ → ℕ
+pairsAmong zero = 0
+pairsAmong (suc n) = n + pairsAmong n
+
+more-pairs : (m n : ℕ) → pairsAmong n ≤ pairsAmong (m + n)
+unfolding pairsAmong
+more-pairs zero n = let e : n ≡ 0 + n = omega arith in omega (arith, ap pairsAmong e)
+more-pairs (suc m) n = let e : suc (m + n) ≡ suc m + n = omega arith in omega (arith, ap pairsAmong e, more-pairs m n)
+
+pairs-most : (v : ℕ) → v ≤ mostBoards → pairsAmong v ≤ mostPairs
+unfolding pairsAmong
+pairs-most v few = let e : mostBoards - v + v ≡ mostBoards = omega arith in omega (arith, ap pairsAmong e, more-pairs (mostBoards - v) v)
+
 module _ (v : ℕ) (t : List ℕ) where
   row-short : (p : ℕ) → p < 100 → (n i : ℕ) → i + n ≤ 100 → length (flatMap (pairLine v t p) (range i n)) ≤ 8 * n
   unfolding flatMap
@@ -73,80 +81,68 @@ module _ (v : ℕ) (t : List ℕ) where
         row-short p h n (suc i) (omega arith),
       )
 
-  module _ (few : v ≤ mostBoards) where
-    -- the lines of n boards from p on
-    rows-short : (n p : ℕ) → p + n ≤ v → length (flatMap (pairsOf v t) (range p n)) + 8 * before v p ≤ 8 * before v (p + n)
-    unfolding flatMap before
-    rows-short zero p l = let e : p ≡ p + 0 = omega arith in let d : before v p ≡ before v (p + 0) = ap (before v) e in omega arith
-    rows-short (suc n) p l =
-        let e : suc p + n ≡ p + suc n = omega arith in
-        let d : before v (suc p + n) ≡ before v (p + suc n) = ap (before v) e in
-        omega (
-          arith,
-          length-append (pairsOf v t p) (flatMap (pairsOf v t) (range (suc p) n)),
-          row-short p (omega arith) (v - suc p) (suc p) (omega arith),
-          rows-short n (suc p) (omega arith),
-        )
+  -- each pair of the last n boards takes at most 8 bytes
+  rows-short : v ≤ mostBoards → (n p : ℕ) → p + n ≡ v → length (flatMap (pairsOf v t) (range p n)) ≤ 8 * pairsAmong n
+  unfolding flatMap pairsAmong
+  rows-short few zero p e = omega arith
+  rows-short few (suc n) p e =
+      omega (
+        arith,
+        length-append (pairsOf v t p) (flatMap (pairsOf v t) (range (suc p) n)),
+        row-short p (omega arith) (v - suc p) (suc p) (omega arith),
+        rows-short few n (suc p) (omega arith),
+      )
 
-    pairs-short : length (pairs v t) ≤ 8 * mostPairs
-    unfolding before
-    pairs-short =
-        let e : 0 + v ≡ v = omega arith in
-        let d : before v (0 + v) ≡ before v v = ap (before v) e in
-        omega (arith, rows-short v 0 (omega arith), places-length v, pairs-most v few)
+  pairs-short : v ≤ mostBoards → length (pairs v t) ≤ 8 * mostPairs
+  pairs-short few = omega (arith, rows-short few v 0 (omega arith), pairs-most v few)
 
 -- ---- what is printed
 
-told-short : (v : ℕ) (o : Outcome) → v ≤ mostBoards → o .number ≡ 0 → o .count ≤ budget → length (told v o) ≤ most
+told-short : (v : ℕ) (o : Outcome (List ℕ)) → v ≤ mostBoards → o .number ≡ 0 → o .count ≤ budget → length (told v o) ≤ most
 told-short v o few e l =
-    let d : length (told v o) ≡ length (heading v (o .count)) + length (pairs v (o .table)) =
-    ap length (told-found v o e) ∙ length-append (heading v (o .count)) (pairs v (o .table)) in
-    omega (arith, heading-short v (o .count) (omega arith) (omega arith), pairs-short v (o .table) few)
+    let d : length (told v o) ≡ length (heading v (o .count)) + length (pairs v (o .lent)) =
+    ap length (told-found v o e) ∙ length-append (heading v (o .count)) (pairs v (o .lent)) in
+    omega (arith, heading-short v (o .count) (omega arith) (omega arith), pairs-short v (o .lent) few)
 
-told-refused-short : (v : ℕ) (o : Outcome) → (o .number ≡ 0 → ⊥) → o .number < 100 → length (told v o) ≤ most
+told-refused-short : (v : ℕ) (o : Outcome (List ℕ)) → (o .number ≡ 0 → ⊥) → o .number < 100 → length (told v o) ≤ most
 told-refused-short v o f l = subst (λ (xs : List ℕ). length xs ≤ most) (sym (told-refused v o f)) (refusal-short (o .number) l)
 
 module _ (v : ℕ) (t : List ℕ) where
-  -- by whether the tries are within the budget
+  -- what is told of the end of a search is short, whether its tries are within the budget or not
   answer-short : v ≤ mostBoards → (e : End) (b : Bool) → leb (tries e) budget ≡ b
       → length (told v (answer t (elim b [ true ↦ ended e | false ↦ ranOut budget ]))) ≤ most
   answer-short few (found n w) true d = told-short v (succeed n w) few refl (leb-true n budget d)
   answer-short few (none n) true d = told-refused-short v (refuse 8 n t) (λ z. let w : ⊥ = omega arith in absurd w) (omega arith)
   answer-short few e false d = told-refused-short v (refuse 9 budget t) (λ z. let w : ⊥ = omega arith in absurd w) (omega arith)
 
-  -- by whether the table is well-formed
-  table-short : v ≤ mostBoards → (e : End) (b : Bool)
-      → length (told v (elim b [ true ↦ answer t (cap budget e) | false ↦ refuse 6 0 t ])) ≤ most
-  unfolding cap
-  table-short few e true = answer-short few e (leb (tries e) budget) refl
-  table-short few e false = told-refused-short v (refuse 6 0 t) (λ z. let w : ⊥ = omega arith in absurd w) (omega arith)
+  -- the outcome of a search of the table t under a sheet
+  searched : Sheet → Outcome (List ℕ)
+  searched s = answer t (cap budget (search (closing s) plainOrder (s .boards) t))
+
+  -- what is told of a search is short, whether the table is well-formed or not
+  table-short : v ≤ mostBoards → (s : Sheet) (b : Bool) → length (told v (given (need 6 b (good s)) t searched)) ≤ most
+  unfolding cap searched
+  table-short few s true =
+      let e = search (closing s) plainOrder (s .boards) t in answer-short few e (leb (tries e) budget) refl
+  table-short few s false = told-refused-short v (refuse 6 0 t) (λ z. let w : ⊥ = omega arith in absurd w) (omega arith)
 
 module _ (ws : List ℕ) where
   abbrev boards : ℕ
   boards = getD ws 0 0
 
-  -- by what is read
-  by-reading : Reading Sheet → Outcome
-  by-reading r =
-      elim r [
-        | good s ↦ elim (wellFormed (s .boards) (filled boards)) [
-          | true ↦ answer (filled boards) (cap budget (search (closing s) plainOrder (s .boards) (filled boards)))
-          | false ↦ refuse 6 0 (filled boards)
-        ]
-        | refused n ↦ refuse n 0 (filled boards)
-      ]
+  abbrev table : List ℕ
+  table = filled boards
 
-  reading-short : (r : Reading Sheet) → read ws ≡ r → length (told boards (by-reading r)) ≤ most
-  unfolding by-reading
-  reading-short (good s) e =
-      table-short boards (filled boards) (described ws (numbers ws) (sym (ap (numbersFound ws) e)) .1 .few)
-      (search (closing s) plainOrder (s .boards) (filled boards)) (wellFormed (s .boards) (filled boards))
+  -- what is told of the words is short, whatever is read
+  reading-short : (r : Reading Sheet) → read ws ≡ r
+      → length (told boards (given (next r (λ s. need 6 (wellFormed (s .boards) table) (good s))) table (searched boards table))) ≤ most
+  reading-short (good s) e = table-short boards table (read-in-range ws s e .boards) s (wellFormed (s .boards) table)
   reading-short (refused n) e =
       let k = read-numbered ws n e in
-      told-refused-short boards (refuse n 0 (filled boards)) (λ z. let w : ⊥ = omega (arith, k .0) in absurd w) (omega (arith, k .1))
+      told-refused-short boards (refuse n 0 table) (λ z. let w : ⊥ = omega (arith, k .0) in absurd w) (omega (arith, k .1))
 
   solved-short : length (solved ws) ≤ most
-  unfolding solved searching by-reading
+  unfolding solved searching admitted searched
   solved-short = reading-short (read ws) refl
 
 input-short : length inputLine ≤ most

@@ -1,6 +1,6 @@
 -- The laws behind the functions of this crate.
 pub mod Putting
-pub mod Numbers
+pub mod Decimals
 pub mod Signs
 pub mod Rows
 pub mod Solving

@@ -8,9 +8,9 @@ use Rattle.rules.specs.Descriptions.{relationLine, kindLine, section, numbersFi
 use Rattle.rules.specs.Tables.{emptied, total}
 use Rattle.rules.specs.Closing.{reaches, agree, bound6, bound6′, bound7, bound7′, rules1, rules2, rules3, rules4, rules5, rules6, rules7, rules, strike, sweep, sweeps, closing}
 use Rattle.rules.specs.Search.{attempt, choose, places, search, cap}
-use Rattle.rules.specs.Calls.{wellFormed, searching}
+use Rattle.rules.specs.Calls.{wellFormed, admitted, searching}
 use Rattle.words.specs.Words.{words}
-use Rattle.listing.specs.Listings.{boardsText, triesText, refusedText, inputLine, digits, decimal, sign, refusal, heading, pairLine, told, solved, listing}
+use Rattle.listing.specs.Listings.{boardsText, triesText, refusedText, inputLine, digits, decimal, sign, refusalLine, heading, pairLine, told, solved, listing}
 
 -- words below 256, low byte first
 abbrev bytes : List ℕ → List ℕ
@@ -23,12 +23,12 @@ pub panel-printed : listing (bytes (3 ∷ 0 ∷ 1 ∷ 6 ∷ 6 ∷ 11 ∷ 0 ∷ 5
 unfolding relations has setTo setOf full meet join complement within size opposite converse singles composed compose codes code
     follow evaluate expression relationLine kindLine section numbersFit offsetsFit relationLines kindLines read emptied
     total reaches agree bound6 bound6′ bound7 bound7′ rules1 rules2 rules3 rules4 rules5 rules6 rules7 rules strike sweep
-    sweeps closing attempt choose places search cap wellFormed searching flatMap words digits decimal sign refusal heading pairLine told solved listing
+    sweeps closing attempt choose places search cap wellFormed admitted searching flatMap words digits decimal sign refusalLine heading pairLine told solved listing
 panel-printed = refl
 
 -- no bytes: `refused 1`
 pub nothing-printed : listing [] ≡ refusedText ++ (49 ∷ 10 ∷ [])
-unfolding relations setTo setOf full numbersFit read searching words digits decimal refusal told solved listing
+unfolding relations setTo setOf full numbersFit read admitted searching words digits decimal refusalLine told solved listing
 nothing-printed = refl
 
 -- one byte: `input`

@@ -6,56 +6,51 @@ use Prim.Native.Nat.{ℕ, _*_, _%_, _≤_}
 use native.Mathlib.Omega.{arith}
 use borrow.Author.Tests.{eq-eqb, ne-eqb}
 use lib.Dec.{eqb, leb, eqb→eq, leb→le, le→leb}
-use lib.ListN.{length, getD, replicate}
-use Rattle.rules.specs.Relations.{relations, setTo, setOf, full}
-use Rattle.rules.specs.Descriptions.{mostBoards, Sheet, Reading, good, refused, read}
+use lib.ListN.{length, getD}
+use Rattle.rules.specs.Descriptions.{mostBoards, Sheet, Reading, good, refused, numbersFit, read}
 use Rattle.rules.specs.Search.{plainOrder}
-use Rattle.rules.specs.Calls.{Outcome, fresh, searching}
-use Rattle.rules.specs.Cases.{filled}
-use Rattle.rules.proofs.Tests.{clash, true-T, T-true, T-false, and-T, T-and-left, T-and-right}
+use Rattle.rules.specs.Calls.{Outcome, reading, fresh, searching}
+use Rattle.rules.specs.Tables.{filled}
+use Rattle.rules.proofs.Tests.{true-T, T-true, T-false, and-T, T-and-left, T-and-right}
+use Rattle.rules.proofs.Readings.{need-test}
+use Rattle.rules.proofs.Headers.{InRange, numbers-out}
 use Rattle.rules.proofs.Descriptions.{read-numbered}
+use Rattle.rules.proofs.Calls.{admitted-refused}
+use Rattle.rules.proofs.Called.{search-refused}
+use Rattle.rules.proofs.Freshness.{fresh-full}
 use Rattle.answers.specs.declared.Answer.{Answer}
-use Rattle.answers.specs.Answers.{numbered, outcome}
+use Rattle.answers.specs.Answers.{answered, outcome}
 use Rattle.answers.proofs.Outcomes.{outcome-determined}
-use Rattle.tables.proofs.Freshness.{fresh-filled}
-use Rattle.headers.specs.declared.Header.{Header}
-use Rattle.headers.specs.declared.HeaderFound.the-variants.{Good}
-use Rattle.headers.specs.Found.{numbers, numbersFound}
-use Rattle.sheet.specs.Found.{descriptionFound}
-use Rattle.search.proofs.Searching.{search-refused}
 use Rattle.words.specs.Words.{words}
-use Rattle.listing.specs.Listings.{mostBytes, budget, inputLine, refusal, heading, pairs, told, solved, listing}
+use Rattle.listing.specs.Listings.{mostBytes, budget, inputLine, refusalLine, heading, pairs, told, solved, listing}
 
 -- ---- an outcome
 
-module _ (v : ℕ) (o : Outcome) where
-  -- by whether it is a success
+module _ (v : ℕ) (o : Outcome (List ℕ)) where
+  -- what is told of an outcome, by whether it is a success
   by-number : Bool → List ℕ
-  by-number b = elim b [ true ↦ heading v (o .count) ++ pairs v (o .table) | false ↦ refusal (o .number) ]
+  by-number b = elim b [ true ↦ heading v (o .count) ++ pairs v (o .lent) | false ↦ refusalLine (o .number) ]
 
-  pub told-found : o .number ≡ 0 → told v o ≡ heading v (o .count) ++ pairs v (o .table)
+  pub told-found : o .number ≡ 0 → told v o ≡ heading v (o .count) ++ pairs v (o .lent)
   unfolding told by-number
   told-found e = ap by-number (eq-eqb (o .number) 0 e)
 
-  pub told-refused : (o .number ≡ 0 → ⊥) → told v o ≡ refusal (o .number)
+  pub told-refused : (o .number ≡ 0 → ⊥) → told v o ≡ refusalLine (o .number)
   unfolding told by-number
   told-refused f = ap by-number (ne-eqb (o .number) 0 f)
 
 -- ---- a search of a full table
 
--- what the fresh call leaves of as many cells
-fresh-filled-table : (v : ℕ) (t u : List ℕ) (a : Answer) → 1 ≤ v → v ≤ mostBoards → length t ≡ v * v → outcome a u ≡ fresh v t → u ≡ filled v
-unfolding relations setTo setOf full
-fresh-filled-table v t u a some few e f =
-    outcome-determined a (numbered 0) u (replicate (length t) 15) (f ∙ sym (fresh-filled v t some few (replicate (length t) 15) e refl)) .1
-    ∙ ap (λ (n : ℕ). replicate n 15) e
+-- the fresh call makes a table full that has as many cells as the boards ask for
+fresh-leaves : (v : ℕ) (t u : List ℕ) (a : Answer) → 1 ≤ v → v ≤ mostBoards → length t ≡ v * v → outcome a u ≡ fresh v t → u ≡ filled v
+fresh-leaves v t u a some few e f = outcome-determined a (answered 0 0) u (filled v) (f ∙ fresh-full v t some few e) .1
 
 module _ {v : ℕ} (ws t : List ℕ) {u w : List ℕ} {a b : Answer} (some : 1 ≤ v) (few : v ≤ mostBoards) (cells : length t ≡ v * v)
     (made : outcome a u ≡ fresh v t) (done : outcome b w ≡ searching plainOrder ws u budget) where
   whole : searching plainOrder ws (filled v) budget ≡ outcome b w
-  whole = ap (λ (l : List ℕ). searching plainOrder ws l budget) (sym (fresh-filled-table v t u a some few cells made)) ∙ sym done
+  whole = ap (λ (l : List ℕ). searching plainOrder ws l budget) (sym (fresh-leaves v t u a some few cells made)) ∙ sym done
 
-  pub search-told-refused : (b .number ≡ 0 → ⊥) → told v (searching plainOrder ws (filled v) budget) ≡ refusal (b .number)
+  pub search-told-refused : (b .number ≡ 0 → ⊥) → told v (searching plainOrder ws (filled v) budget) ≡ refusalLine (b .number)
   search-told-refused f = ap (told v) whole ∙ told-refused v (outcome b w) f
 
   pub search-told-found : b .number ≡ 0 → told v (searching plainOrder ws (filled v) budget) ≡ heading v (b .count) ++ pairs v w
@@ -64,22 +59,41 @@ module _ {v : ℕ} (ws t : List ℕ) {u w : List ℕ} {a b : Answer} (some : 1 �
 -- ---- a description
 
 module _ (ws : List ℕ) where
-  pub solved-refused : (n : ℕ) → read ws ≡ refused n → solved ws ≡ refusal n
-  unfolding solved
-  solved-refused n e =
-      let v = getD ws 0 0 in
-      let r = read-numbered ws n e in
-      ap (told v) (sym (search-refused plainOrder ws (filled v) budget n e)) ∙ told-refused v _ (λ z. let w : ⊥ = omega (arith, r .0) in absurd w)
+  -- the numbers of a good description are in range
+  pub read-in-range : (s : Sheet) → read ws ≡ good s → InRange ws
+  unfolding read
+  read-in-range s e = numbers-out ws (need-test 1 (numbersFit ws) _ s e)
 
-  pub solved-good : (h : Header) → Good h ≡ descriptionFound ws → solved ws ≡ told (h .boards) (searching plainOrder ws (filled (h .boards)) budget)
+  -- what is printed is told of a search of a full table
+  pub solved-searched : {v : ℕ} → v ≡ getD ws 0 0 → solved ws ≡ told v (searching plainOrder ws (filled v) budget)
   unfolding solved
-  solved-good h p = go (read ws) p
-    where
-      go : (r : Reading Sheet) → Good h ≡ numbersFound ws r → told (getD ws 0 0) (searching plainOrder ws (filled (getD ws 0 0)) budget) ≡ told (h .boards) (searching plainOrder ws (filled (h .boards)) budget)
-      go (good s) p =
-          let e : h ≡ numbers ws = cc in
-          ap (λ (k : Header). told (k .boards) (searching plainOrder ws (filled (k .boards)) budget)) (sym e)
-      go (refused n) p = clash (cc)
+  solved-searched e = ap (λ (v : ℕ). told v (searching plainOrder ws (filled v) budget)) (sym e)
+
+  -- what follows from the number that reading the words answers
+  module _ {a : Answer} (says : a ≡ answered (reading ws) 0) where
+    read-number : a .number ≡ reading ws
+    read-number = ap (λ (a : Answer). a .number) says
+
+    pub good-in-range : a .number ≡ 0 → InRange ws
+    unfolding reading
+    good-in-range e = go (read ws) refl (sym read-number ∙ e)
+      where
+        go : (r : Reading Sheet) → read ws ≡ r → _≡_ {A = ℕ} (elim r [ good s ↦ 0 | refused n ↦ n ]) 0 → InRange ws
+        go (good s) d z = read-in-range s d
+        go (refused n) d z = let w : ⊥ = omega (arith, read-numbered ws n d) in absurd w
+
+    pub solved-refused : (a .number ≡ 0 → ⊥) → solved ws ≡ refusalLine (a .number)
+    unfolding reading solved
+    solved-refused f = go (read ws) refl read-number
+      where
+        t : List ℕ
+        t = filled (getD ws 0 0)
+
+        go : (r : Reading Sheet) → read ws ≡ r → a .number ≡ elim r [ good s ↦ 0 | refused n ↦ n ] → solved ws ≡ refusalLine (a .number)
+        go (good s) d e = absurd (f e)
+        go (refused n) d e =
+            ap (told (getD ws 0 0)) (search-refused t ws plainOrder budget (admitted-refused ws t n d))
+            ∙ told-refused (getD ws 0 0) _ (λ z. f (e ∙ z)) ∙ ap refusalLine (sym e)
 
 -- ---- the bytes
 

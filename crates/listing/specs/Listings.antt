@@ -2,20 +2,21 @@
 -- Assumes nothing.
 use mathlib.Core.Bool.{true, false, _&&_}
 use mathlib.Core.List.{List, [], _∷_, _++_, flatMap}
-use Prim.Native.Nat.{ℕ, zero, suc, _+_, _-_, _/_, _%_}
+use Prim.Native.Nat.{ℕ, zero, suc, _+_, _-_, _*_, _/_, _%_}
 use lib.Dec.{leb, ltb, eqb}
 use lib.ListN.{length, getD}
 use Rattle.rules.specs.Relations.{E, A, B}
-use Rattle.rules.specs.Tables.{cell, range, upTo}
+use Rattle.rules.specs.Descriptions.{mostWords}
+use Rattle.rules.specs.Tables.{cell, range, upTo, filled}
 use Rattle.rules.specs.Search.{plainOrder}
 use Rattle.rules.specs.Calls.{Outcome, searching}
-use Rattle.rules.specs.Cases.{filled}
 use Rattle.words.specs.Words.{words}
 
--- the bytes of the longest description, and the tries that are allowed
+-- the bytes of the longest description, two for each word
 abbrev pub mostBytes : ℕ
-mostBytes = 4972
+mostBytes = 2 * mostWords
 
+-- the tries that are allowed
 abbrev pub budget : ℕ
 budget = 10000
 
@@ -64,27 +65,28 @@ signText x = 32 ∷ sign x ∷ 32 ∷ []
 -- ---- the lines
 
 -- A refusal prints only `refused`, a blank and its number.
-unfoldable pub refusal : ℕ → List ℕ
-refusal n = refusedText ++ (decimal n ++ lineFeed)
+unfoldable pub refusalLine : ℕ → List ℕ
+refusalLine n = refusedText ++ (decimal n ++ lineFeed)
 
 -- The first line has V and the tries.
 unfoldable pub heading : ℕ → ℕ → List ℕ
 heading v n = boardsText ++ (decimal v ++ (triesText ++ (decimal n ++ lineFeed)))
 
--- p, the sign, q
+-- The line of a pair has p, the sign and q.
 unfoldable pub pairLine : ℕ → List ℕ → ℕ → ℕ → List ℕ
 pairLine v t p q = decimal p ++ (signText (cell v t p q) ++ (decimal q ++ lineFeed))
 
--- then one line for each pair p < q in order
+-- Each board after p has a line with p, in order.
 abbrev pub pairsOf : ℕ → List ℕ → ℕ → List ℕ
 pairsOf v t p = flatMap (pairLine v t p) (range (suc p) (v - suc p))
 
+-- There is one line for each pair p < q, by p and then q.
 abbrev pub pairs : ℕ → List ℕ → List ℕ
 pairs v t = flatMap (pairsOf v t) (upTo v)
 
 -- what is printed of an outcome of the search
-unfoldable pub told : ℕ → Outcome → List ℕ
-told v o = elim (eqb (o .number) 0) [ true ↦ heading v (o .count) ++ pairs v (o .table) | false ↦ refusal (o .number) ]
+unfoldable pub told : ℕ → Outcome (List ℕ) → List ℕ
+told v o = elim (eqb (o .number) 0) [ true ↦ heading v (o .count) ++ pairs v (o .lent) | false ↦ refusalLine (o .number) ]
 
 -- The program starts from a full table with a budget of 10,000.
 unfoldable pub solved : List ℕ → List ℕ

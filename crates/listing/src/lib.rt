@@ -8,38 +8,31 @@ ghost use Prim.Native.Nat.{_*_, _≤_};
 ghost use Rattle.rules.specs.Descriptions.{mostBoards};
 ghost use Rattle.rules.specs.Search.{plainOrder};
 ghost use Rattle.rules.specs.Calls.{searching};
-ghost use Rattle.rules.specs.Cases.{filled};
+ghost use Rattle.rules.specs.Tables.{filled};
 ghost use Rattle.listing.specs.Listings.{budget, told, solved, listing, inputLine};
 ghost use Rattle.listing.specs.Pages.{pageBytes, page, HasRoom, Put};
 use crate::puts::put_text;
 use crate::texts::put_heading;
 use crate::texts::put_pairs;
 use crate::texts::put_refusal;
-use headers::HeaderFound;
+use answers::limits::MOST_WORDS;
+use answers::rooms::table_room;
+use answers::rooms::words_room;
+use answers::widths::word_number;
 
-// The size of a page: no page is longer.
+// The bytes of a page, used or not.
 pub const PAGE_BYTES: usize = 1024;
 
-// The bytes of the longest description.
-pub const MOST_BYTES: usize = 4972;
+// The bytes of the longest description, two for each word.
+pub const MOST_BYTES: usize = 2 * MOST_WORDS;
 
-// The words of the longest description.
-const MOST_WORDS: usize = MOST_BYTES / 2;
-
-// The tries that are allowed.
+// The tries that a search is allowed.
 const BUDGET: u32 = 10000;
 
-// What is printed: the bytes used, and zeros after them.
+// A page holds the bytes that are printed, and zeros after them.
 pub struct Page {
     pub text: [u8; PAGE_BYTES],
     pub used: usize,
-}
-
-// Room for the words of a description.
-fn room() -> [u16; MOST_WORDS]
-    ensures { λ r. ⌜ r ≡ replicate 2486 0 ⌝ }
-{
-    [0; MOST_WORDS]
 }
 
 // A page of zeros.
@@ -49,13 +42,13 @@ fn blank() -> [u8; PAGE_BYTES]
     [0; PAGE_BYTES]
 }
 
-// Searches a full table of v boards, and puts what is printed of that.
+// Searches a full table of v boards, and puts what is printed for that search.
 fn put_solved(text: &mut [u8], words: &[u16], v: usize, table: &mut [u8]) -> usize
     requires { ⌜ (1 ≤ v) × (v ≤ mostBoards) × (length (now table) ≡ v * v) × HasRoom (now text) 0 (told v (searching plainOrder (now words) (filled v) budget)) ⌝ }
     ensures { λ n. ⌜ Put (now (text .entry)) 0 (told v (searching plainOrder (now (words .entry)) (filled v) budget)) (now (text .exit)) n ⌝ }
 {
-    tables::fresh(v, table);
-    let found = search::search(words, table, BUDGET);
+    solver::fresh(v, table);
+    let found = solver::search(words, table, BUDGET);
     if found.number != 0 {
         return put_refusal(text, found.number);
     }
@@ -63,22 +56,22 @@ fn put_solved(text: &mut [u8], words: &[u16], v: usize, table: &mut [u8]) -> usi
     put_pairs(text, next, v, table)
 }
 
-// Puts what is printed for a description.
+// Puts what is printed for the words of a description.
 fn put_words(text: &mut [u8], words: &[u16]) -> usize
     requires { ⌜ HasRoom (now text) 0 (solved (now words)) ⌝ }
     ensures { λ n. ⌜ Put (now (text .entry)) 0 (solved (now (words .entry))) (now (text .exit)) n ⌝ }
 {
-    let h = match sheet::description(words) {
-        HeaderFound::Good(h) => h,
-        HeaderFound::Refused(r) => return put_refusal(text, r.number),
-    };
-    let v = h.boards;
+    let read = solver::read(words);
+    if read.number != 0 {
+        return put_refusal(text, read.number);
+    }
+    let v = word_number(words[0]);
     let n = v * v;
-    let mut table = copies::room();
+    let mut table = table_room();
     put_solved(text, words, v, &mut table[..n])
 }
 
-// Puts what is printed for the bytes.
+// Puts what is printed for the bytes that were read.
 fn put_listing(text: &mut [u8], bytes: &[u8]) -> usize
     requires { ⌜ HasRoom (now text) 0 (listing (now bytes)) ⌝ }
     ensures { λ n. ⌜ Put (now (text .entry)) 0 (listing (now (bytes .entry))) (now (text .exit)) n ⌝ }
@@ -87,7 +80,7 @@ fn put_listing(text: &mut [u8], bytes: &[u8]) -> usize
         return put_text(text, 0, b"input\n");
     }
     let n = bytes.len() / 2;
-    let mut words = room();
+    let mut words = words_room();
     words::take_words(bytes, &mut words[..n]);
     put_words(text, &words[..n])
 }

@@ -4,11 +4,13 @@ ghost use mathlib.Core.List.{_++_};
 ghost use Prim.Native.Nat.{_*_, _≤_, _<_};
 ghost use lib.ListN.{length};
 ghost use Rattle.rules.specs.Descriptions.{mostBoards};
-ghost use Rattle.listing.specs.Listings.{decimal, lineFeed, sign, signText, refusal, heading, pairsOf, pairs};
+ghost use Rattle.listing.specs.Listings.{decimal, lineFeed, sign, signText, refusalLine, heading, pairsOf, pairs};
 ghost use Rattle.listing.specs.Pages.{HasRoom, Put};
 use crate::puts::put_byte;
 use crate::puts::put_number;
 use crate::puts::put_text;
+use answers::widths::byte_number;
+use answers::widths::count_number;
 
 // The sign of a single relation.
 fn sign(set: u8) -> u8
@@ -26,23 +28,11 @@ fn sign(set: u8) -> u8
     b'|'
 }
 
-// The sign between blanks.
+// The sign of a single relation between blanks.
 fn sign_text(set: u8) -> [u8; 3]
     ensures { λ r. ⌜ r ≡ signText set ⌝ }
 {
     [b' ', sign(set), b' ']
-}
-
-fn wide(n: u8) -> usize
-    ensures { λ r. ⌜ r ≡ n ⌝ }
-{
-    n as usize
-}
-
-fn widest(n: u32) -> usize
-    ensures { λ r. ⌜ r ≡ n ⌝ }
-{
-    n as usize
 }
 
 // Puts a number that ends its line.
@@ -56,26 +46,26 @@ fn put_last(text: &mut [u8], at: usize, n: usize) -> usize
 
 // Puts the line of a refusal.
 pub(crate) fn put_refusal(text: &mut [u8], number: u8) -> usize
-    requires { ⌜ HasRoom (now text) 0 (refusal number) ⌝ }
-    ensures { λ n. ⌜ Put (now (text .entry)) 0 (refusal number) (now (text .exit)) n ⌝ }
+    requires { ⌜ HasRoom (now text) 0 (refusalLine number) ⌝ }
+    ensures { λ n. ⌜ Put (now (text .entry)) 0 (refusalLine number) (now (text .exit)) n ⌝ }
 {
     let next = put_text(text, 0, b"refused ");
-    put_last(text, next, wide(number))
+    put_last(text, next, byte_number(number))
 }
 
-// Puts the first line.
+// Puts the first line of a listing, with the number of boards and the tries.
 pub(crate) fn put_heading(text: &mut [u8], v: usize, tries: u32) -> usize
     requires { ⌜ HasRoom (now text) 0 (heading v tries) ⌝ }
     ensures { λ n. ⌜ Put (now (text .entry)) 0 (heading v tries) (now (text .exit)) n ⌝ }
 {
-    let count = widest(tries);
+    let count = count_number(tries);
     let boards = put_text(text, 0, b"boards ");
     let after = put_number(text, boards, v);
     let next = put_text(text, after, b" tries ");
     put_last(text, next, count)
 }
 
-// Puts the line of a pair.
+// Puts the line of a pair of boards: p, the sign and q.
 fn put_pair(text: &mut [u8], at: usize, p: usize, set: u8, q: usize) -> usize
     requires { ⌜ HasRoom (now text) at (decimal p ++ (signText set ++ (decimal q ++ lineFeed))) ⌝ }
     ensures { λ n. ⌜ Put (now (text .entry)) at (decimal p ++ (signText set ++ (decimal q ++ lineFeed))) (now (text .exit)) n ⌝ }
@@ -98,7 +88,7 @@ fn put_pairs_of(text: &mut [u8], at: usize, v: usize, table: &[u8], p: usize) ->
     next
 }
 
-// Puts the lines of all pairs.
+// Puts the lines of all pairs of boards.
 pub(crate) fn put_pairs(text: &mut [u8], at: usize, v: usize, table: &[u8]) -> usize
     requires { ⌜ (v ≤ mostBoards) × (length (now table) ≡ v * v) × HasRoom (now text) at (pairs v (now table)) ⌝ }
     ensures { λ n. ⌜ Put (now (text .entry)) at (pairs v (now (table .entry))) (now (text .exit)) n ⌝ }

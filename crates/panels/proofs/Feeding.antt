@@ -8,7 +8,7 @@ use native.Mathlib.Omega.{arith}
 use borrow.Author.Count.{below-more}
 use lib.Dec.{T, eqb, eqb→eq, T-not}
 use lib.ListN.{length, getD}
-use Rattle.rules.specs.Relations.{relations, same, above, E, A, has, Lacks, setTo, setOf, meet, join, complement, _liesWithin_}
+use Rattle.rules.specs.Relations.{relations, same, above, E, A, has, Lacks, meet, join, complement, _liesWithin_}
 use Rattle.rules.specs.Descriptions.{KindLine}
 use Rattle.rules.specs.Tables.{cell}
 use Rattle.rules.specs.Closed.{Misses}
@@ -20,7 +20,6 @@ use Rattle.rules.proofs.Members.{all-one, one-all, all-append, append-left, app
 use Rattle.rules.proofs.Rules.{all-ways, ways-all, relations-pos, same-small, misses-not, not-misses, bound6-none, says6, said6, bound6′-alone, says6′, said6′, bound6-grows, bound6′-grows}
 use Rattle.passes.specs.Passes.{Filled, Idles, Narrowed, Ready, Pass, Quiet}
 use Rattle.passes.proofs.Passes.{filled-one, pass-still, pass-struck, ready-place}
-use Rattle.kinds.specs.Panels.{panel}
 use Rattle.panels.specs.Ways.{FirstReaching}
 
 -- ---- whether a set has E or A, by what it has in common with them
@@ -89,19 +88,13 @@ reaching-inner {ws = ws} {i = i} f n = let l : i ≤ length ws = f .within in om
 
 -- ---- the ends of the search
 
--- 3 is what rule 6 leaves the cell of a way, and 13 what it leaves the cell of the panel
-same-above : 3 ≡ join E A
-unfolding relations has setTo setOf join
-same-above = refl
+-- a kind line on the panel p with its ways, and a board z
+module _ (v : ℕ) (line : KindLine) (z : ℕ) where
+  abbrev p : ℕ
+  p = line .p
 
-not-above : 13 ≡ complement A
-unfolding relations has setTo setOf complement
-not-above = refl
-
--- a panel p with its ways, and a board z
-module _ (v p : ℕ) (ws : List ℕ) (z : ℕ) where
-  abbrev line : KindLine
-  line = panel p 0 ws
+  abbrev ws : List ℕ
+  ws = line .ways
 
   -- rule 6 for the panel, and for way i
   abbrev panelRule : List Rule
@@ -131,8 +124,8 @@ module _ (v p : ℕ) (ws : List ℕ) (z : ℕ) where
       only-above f s = filled-one above t (v * p + z) relations-pos (ready .table) f inside s
 
       -- the cell of the panel lacks A
-      pub feed-lacks : meet (cell v t p z) A ≡ 0 → Pass (Quiet v) v (rule6 v line z) t 0 t 0
-      feed-lacks e =
+      pub rule6-at-lacks : meet (cell v t p z) A ≡ 0 → Pass (Quiet v) v (rule6 v line z) t 0 t 0
+      rule6-at-lacks e =
           pass-still (Quiet v) (ready .table)
           (λ r m f.
           idle6 (λ n. lacks)
@@ -143,12 +136,12 @@ module _ (v p : ℕ) (ws : List ℕ) (z : ℕ) where
           lacks = unshared-lacks above (cell v t p z) relations-pos e
 
       -- it has A, and no way reaches z
-      pub feed-none : {i : ℕ} {w : List ℕ} {n : ℕ} → (meet (cell v t p z) A ≡ 0 → ⊥) → FirstReaching v t ws z 0 i → i ≡ length ws
-          → Narrowed t (v * p + z) 13 w n → Pass (Quiet v) v (rule6 v line z) t 0 w n
-      feed-none {i} d f e m =
+      pub rule6-at-none : {i : ℕ} {w : List ℕ} {n : ℕ} → (meet (cell v t p z) A ≡ 0 → ⊥) → FirstReaching v t ws z 0 i → i ≡ length ws
+          → Narrowed t (v * p + z) (complement A) w n → Pass (Quiet v) v (rule6 v line z) t 0 w n
+      rule6-at-none {i} d f e m =
           pass-struck (Quiet v) (rule6 v line z) (record { row = p; column = z; bound = λ t. bound6 v t line z })
           (λ x d. one-all (Idle v x) (append-left (Idle v x) panelRule (waysOf line wayRule) d)) (λ u w i. bound6-grows v i line z) (ready .table)
-          inside (not-above ∙ sym (bound6-none v t line z misses)) m
+          inside (sym (bound6-none v t line z misses)) m
           (λ unchanged s. absurd (T-not (has (cell v t p z) above) (says6 v t line z s misses) (shared-has above (cell v t p z) d)))
         where
           misses : (j : ℕ) → j < length ws → Misses (cell v t (getD ws j 0) z)
@@ -160,14 +153,14 @@ module _ (v p : ℕ) (ws : List ℕ) (z : ℕ) where
         misses-way m = misses-not (cell v t (getD ws i 0) z) m (f .found h)
 
         -- and the cell of the panel has more than A
-        pub feed-more : (cell v t p z ≡ A → ⊥) → Pass (Quiet v) v (rule6 v line z) t 0 t 0
-        feed-more n =
+        pub rule6-at-more : (cell v t p z ≡ A → ⊥) → Pass (Quiet v) v (rule6 v line z) t 0 t 0
+        rule6-at-more n =
             pass-still (Quiet v) (ready .table)
             (λ r o g. idle6 (λ m. absurd (misses-way (m i h))) (λ k l s a. absurd (n (only-above g s))) r o)
 
         -- and way j reaches it too
-        pub feed-two : {j : ℕ} → FirstReaching v t ws z (i + 1) j → j < length ws → Pass (Quiet v) v (rule6 v line z) t 0 t 0
-        feed-two {j} b l =
+        pub rule6-at-two : {j : ℕ} → FirstReaching v t ws z (i + 1) j → j < length ws → Pass (Quiet v) v (rule6 v line z) t 0 t 0
+        rule6-at-two {j} b l =
             pass-still (Quiet v) (ready .table)
             (λ r q g. idle6 (λ m. absurd (misses-way (m i h))) (λ k o s a. absurd (both k a)) r q)
           where
@@ -179,15 +172,15 @@ module _ (v p : ℕ) (ws : List ℕ) (z : ℕ) where
                 (λ n. misses-way (a i h (T-differ n))) (T-decide (eqb k i))
 
         -- and no other way does, and the cell of the panel is A
-        pub feed-alone : {j y : ℕ} {w : List ℕ} {n : ℕ} → cell v t p z ≡ A → FirstReaching v t ws z (i + 1) j → length ws ≤ j → y ≡ getD ws i 0
-            → v * y + z < length t → Narrowed t (v * y + z) 3 w n → Pass (Quiet v) v (rule6 v line z) t 0 w n
-        feed-alone {j} {y} {w} {n} e b l d o m =
+        pub rule6-at-alone : {j y : ℕ} {w : List ℕ} {n : ℕ} → cell v t p z ≡ A → FirstReaching v t ws z (i + 1) j → length ws ≤ j → y ≡ getD ws i 0
+            → v * y + z < length t → Narrowed t (v * y + z) (join E A) w n → Pass (Quiet v) v (rule6 v line z) t 0 w n
+        rule6-at-alone {j} {y} {w} {n} e b l d o m =
             pass-struck (Quiet v) (rule6 v line z) (record { row = getD ws i 0; column = z; bound = λ t. bound6′ v t line i z })
             (λ x d. one-all (Idle v x) (ways-all (Idle v x) line wayRule (append-right (Idle v x) panelRule (waysOf line wayRule) d) i h))
             (λ u w k. bound6′-grows v k line i z) (ready .table)
             (subst (λ (x : ℕ). v * x + z < length t) d o)
-            (same-above ∙ sym (bound6′-alone v t line z i (lies-eq e) alone))
-            (subst (λ (x : ℕ). Narrowed t (v * x + z) 3 w n) d m)
+            (sym (bound6′-alone v t line z i (lies-eq e) alone))
+            (subst (λ (x : ℕ). Narrowed t (v * x + z) (join E A) w n) d m)
             (λ unchanged s x c g. idle6 (λ q. absurd (misses-way (q i h))) (λ k q r a. this s k a) x c)
           where
             alone : Alone t i

@@ -7,7 +7,7 @@ use native.Mathlib.Omega.{arith}
 use lib.Dec.{T, T-not}
 use lib.ListN.{length, getD}
 use Rattle.rules.specs.Relations.{relations, meet, size, _liesWithin_}
-use Rattle.rules.specs.Descriptions.{mostBoards}
+use Rattle.rules.specs.Descriptions.{mostCells, mostBoards}
 use Rattle.rules.specs.Tables.{Table, narrowed, emptied, total, range, upTo}
 use Rattle.rules.specs.Closing.{Rule, Idle, lies}
 use Rattle.rules.proofs.Sets.{lies-refl, lies-trans, meet-left, size-mono, lies-one}
@@ -16,7 +16,7 @@ use Rattle.rules.proofs.Inside.{in-range, inside-refl, inside-trans, inside-ant
 use Rattle.rules.proofs.Strikes.{strike-table, strike-inside, strike-keeps, strike-within, strike-idle, strike-total}
 use Rattle.rules.proofs.Rules.{Grows}
 use Rattle.rules.proofs.Calls.{total-most}
-use Rattle.passes.specs.Passes.{mostCells, mostMembers, Filled, Idles, Narrowed, Ready, Kept, Pass, Once, Clash}
+use Rattle.passes.specs.Passes.{mostMembers, Filled, Idles, Narrowed, Ready, Kept, Pass, Once, Clash}
 
 over-more : {X : Type 0} (f : X → List Rule) (done : List X) (x : X) → flatMap f done ++ f x ≡ flatMap f (done ++ (x ∷ []))
 unfolding flatMap
@@ -219,9 +219,9 @@ module _ {v : ℕ} where
   pub ready-kept : {rs : List Rule} {t w : List ℕ} {a b : ℕ} → Ready v t → Kept v rs t a w b → Ready v w
   ready-kept r k = record { boards = r .boards; table = k .table }
 
-  pub kept-few : {rs : List Rule} {t w : List ℕ} {a b : ℕ} → Ready v t → Kept v rs t a w b → b ≤ a + mostMembers
+  pub ready-few : {t : List ℕ} → Ready v t → total t ≤ mostMembers
   unfolding relations
-  kept-few {t = t} r k =
-      let c = k .counted in
-      let d : length t ≡ v * v = r .table .cells in
-      omega (arith, total-most t, mul-le-mul (r .boards) (r .boards))
+  ready-few {t} r = let d : length t ≡ v * v = r .table .cells in omega (arith, total-most t, mul-le-mul (r .boards) (r .boards))
+
+  pub kept-few : {rs : List Rule} {t w : List ℕ} {a b : ℕ} → Ready v t → Kept v rs t a w b → b ≤ a + mostMembers
+  kept-few {t = t} r k = let c = k .counted in omega (arith, ready-few r)

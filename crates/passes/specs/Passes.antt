@@ -6,14 +6,11 @@ use Prim.Native.Nat.{ℕ, _+_, _*_, _-_, _≤_}
 use lib.Dec.{T}
 use lib.ListN.{getD}
 use Rattle.rules.specs.Relations.{meet, size}
-use Rattle.rules.specs.Descriptions.{mostBoards}
+use Rattle.rules.specs.Descriptions.{mostBoards, mostCells}
 use Rattle.rules.specs.Tables.{cell, Table, narrowed, Inside, emptied, total}
 use Rattle.rules.specs.Closing.{Rule, Idle}
 
--- the most cells of a table, and the most relations in them
-abbrev pub mostCells : ℕ
-mostCells = mostBoards * mostBoards
-
+-- the most relations in the cells of a table
 abbrev pub mostMembers : ℕ
 mostMembers = 4 * mostCells
 
@@ -43,7 +40,7 @@ pub record Kept (v : ℕ) (rs : List Rule) (t : List ℕ) (a : ℕ) (w : List �
   pub keeps : (x : List ℕ) → Inside x t → Idles v rs x → Inside x w
   pub counted : b + total w ≡ a + total t
 
--- Besides, where nothing was struck, Q holds of each rule.
+-- Strikes took the table t to w, as `Kept` says; and where nothing was struck, Q holds of each rule.
 pub record Pass (Q : List ℕ → Rule → Type 0) (v : ℕ) (rs : List Rule) (t : List ℕ) (a : ℕ) (w : List ℕ) (b : ℕ) : Type 0 where
   pub kept : Kept v rs t a w b
   pub quiet : b ≡ a → (r : Rule) → List·Memᴰ r rs → Q t r
@@ -56,7 +53,7 @@ Quiet v t r = Filled t → Idle v t r
 abbrev pub Sound : ℕ → List ℕ → Rule → Type 0
 Sound v t r = Idle v t r × (cell v t (r .row) (r .column) ≡ 0 → ⊥)
 
--- Or, whatever was struck, the rules strike nothing in any table inside what is left.
+-- Strikes took the table t to w, as `Kept` says; and the rules strike nothing in any table inside w.
 pub record Once (v : ℕ) (rs : List Rule) (t : List ℕ) (a : ℕ) (w : List ℕ) (b : ℕ) : Type 0 where
   pub kept : Kept v rs t a w b
   pub held : (x : List ℕ) → Inside x w → Idles v rs x

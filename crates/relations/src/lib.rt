@@ -5,8 +5,9 @@ ghost use mathlib.Core.Path.{_≡_};
 ghost use Prim.Native.Nat.{_^_, _<_};
 ghost use Rattle.rules.specs.Relations.{relations, setLimit, meet, join, complement, converse, size, composed, compose};
 ghost use Rattle.relations.specs.Composing.{Composes};
+use answers::widths::byte_number;
 
-// Same board, above, below, side.
+// The four relations, each as a set of one: same board, above, below, side.
 pub const E: u8 = 1;
 
 pub const A: u8 = 2;
@@ -15,12 +16,26 @@ pub const B: u8 = 4;
 
 pub const S: u8 = 8;
 
-// All of them.
-pub const FULL: u8 = 15;
+// The set of all relations.
+pub const FULL: u8 = E + A + B + S;
 
-const RELATIONS: usize = 4;
+// The set of same and above: one board is the other, or above it.
+pub const AT_OR_ABOVE: u8 = E + A;
 
-const SETS: usize = 16;
+// The set of all relations but above.
+pub const NOT_ABOVE: u8 = FULL - A;
+
+// The set of all relations but same.
+pub const NOT_SAME: u8 = FULL - E;
+
+// How many relations there are.
+pub const RELATIONS: usize = 4;
+
+// How many sets of relations there are.
+const SETS: usize = 1 << RELATIONS;
+
+// How many pairs of sets there are.
+const SET_PAIRS: usize = SETS * SETS;
 
 // The sixteen compositions of single relations: what p to r may be, given p to q (row) and q to r (column).
 const SINGLES: [[u8; RELATIONS]; RELATIONS] = [
@@ -30,8 +45,8 @@ const SINGLES: [[u8; RELATIONS]; RELATIONS] = [
     [8, 8, 12, 15], // S
 ];
 
-// Each set the other way round: A and B exchanged.
-const CONVERSES: [u8; 16] = [
+// Each set as seen from the other board, with A and B exchanged.
+const CONVERSES: [u8; SETS] = [
     0, // nothing
     1, // E
     4, // A
@@ -50,13 +65,7 @@ const CONVERSES: [u8; 16] = [
     15, // EABS
 ];
 
-fn wide(x: u8) -> usize
-    ensures { λ n. ⌜ n ≡ x ⌝ }
-{
-    x as usize
-}
-
-// What two single relations, given by their numbers, compose to.
+// Gives what two single relations compose to, by their numbers.
 fn composed(r: usize, s: usize) -> u8
     requires { ⌜ (r < relations) × (s < relations) ⌝ }
     ensures { λ z. ⌜ z ≡ composed r s ⌝ }
@@ -64,19 +73,19 @@ fn composed(r: usize, s: usize) -> u8
     SINGLES[r][s]
 }
 
-// The compositions of all pairs of sets. They are lent to `compose`, so that a loop lays them out once.
-pub fn composition_table() -> [u8; 256]
+// Gives the compositions of all pairs of sets. They are lent to `compose`, so that a loop lays them out once.
+pub fn composition_table() -> [u8; SET_PAIRS]
     ensures { λ t. ⌜ Composes t ⌝ }
 {
     compositions::COMPOSITIONS
 }
 
-// What two sets compose to, by that table.
-pub fn compose(table: &[u8; 256], x: u8, y: u8) -> u8
+// Gives what two sets compose to, by the table of compositions.
+pub fn compose(table: &[u8; SET_PAIRS], x: u8, y: u8) -> u8
     requires { ⌜ Composes (now table) × (x < setLimit) × (y < setLimit) ⌝ }
     ensures { λ z. ⌜ z ≡ compose x y ⌝ }
 {
-    table[SETS * wide(x) + wide(y)]
+    table[SETS * byte_number(x) + byte_number(y)]
 }
 
 // The relations that both sets have.
@@ -108,7 +117,7 @@ pub fn converse(x: u8) -> u8
     requires { ⌜ x < setLimit ⌝ }
     ensures { λ z. ⌜ z ≡ converse x ⌝ }
 {
-    CONVERSES[wide(x)]
+    CONVERSES[byte_number(x)]
 }
 
 // The set of one relation, given by its number.

@@ -11,13 +11,13 @@ use lib.Dec.{T, eqb, ltb, eqb→eq, eqb-refl, ltb→lt, lt→ltb}
 use lib.Pow.{pow-pos}
 use lib.ListN.{length, getD}
 use Rattle.rules.specs.Relations.{eachOf, relations, setLimit, has, size}
-use Rattle.rules.specs.Descriptions.{mostBoards, Sheet, Reading, good, refused, read, WellFormed}
+use Rattle.rules.specs.Descriptions.{mostBoards, Sheet, Reading, good, refused, need, next, read, WellFormed}
 use Rattle.rules.specs.Tables.{Table, Inside, cell, at, emptied, total}
 use Rattle.rules.specs.Arrangements.{Arrangement}
 use Rattle.rules.specs.Closed.{strikes}
 use Rattle.rules.specs.Closing.{rules}
-use Rattle.rules.specs.Calls.{Outcome, refuse, wellFormed, given, idle, arranged}
-use Rattle.rules.proofs.Tests.{T-true, T-false, and-T, T-and-left, T-and-right, count-most}
+use Rattle.rules.specs.Calls.{Outcome, refuse, wellFormed, admitted, given, idle, arranged}
+use Rattle.rules.proofs.Tests.{clash, true-T, T-true, T-false, and-T, T-and-left, T-and-right, count-most}
 use Rattle.rules.proofs.Sets.{within-lies, lies-within, size-one, size-single, size-pos, some-member}
 use Rattle.rules.proofs.Members.{each-of-in, each-of-out, each-of-places, member-at, everywhere}
 use Rattle.rules.proofs.Inside.{each-place, in-range, total-mono}
@@ -47,26 +47,55 @@ wellFormed-table v t h =
 
 -- ---- what comes before the rest of a call
 
-module _ (ws t : List ℕ) (f : Sheet → Outcome) where
-  -- by what is read, and then by whether the table is well-formed
-  by-reading : Reading Sheet → Outcome
-  by-reading r = elim r [ good s ↦ elim (wellFormed (s .boards) t) [ true ↦ f s | false ↦ refuse 6 0 t ] | refused n ↦ refuse n 0 t ]
+module _ (ws t : List ℕ) where
+  -- the table is looked at once the description has been read
+  abbrev looked : Reading Sheet → Reading Sheet
+  looked r = next r (λ s. need 6 (wellFormed (s .boards) t) (good s))
 
-  by-table : Sheet → Bool → Outcome
-  by-table s b = elim b [ true ↦ f s | false ↦ refuse 6 0 t ]
-
-  pub given-refused : (n : ℕ) → read ws ≡ refused n → given ws t f ≡ refuse n 0 t
-  unfolding by-reading
-  given-refused n e = ap by-reading e
+  pub admitted-refused : (n : ℕ) → read ws ≡ refused n → admitted ws t ≡ refused n
+  unfolding admitted
+  admitted-refused n e = ap looked e
 
   module _ (s : Sheet) (means : read ws ≡ good s) where
-    pub given-no-table : (Table (s .boards) t → ⊥) → given ws t f ≡ refuse 6 0 t
-    unfolding by-reading by-table
-    given-no-table g = ap by-reading means ∙ ap (by-table s) (T-false {b = wellFormed (s .boards) t} (λ a. g (wellFormed-table (s .boards) t a)))
+    pub admitted-no-table : (Table (s .boards) t → ⊥) → admitted ws t ≡ refused 6
+    unfolding admitted
+    admitted-no-table g =
+        ap looked means ∙ ap (λ (b : Bool). need 6 b (good s)) (T-false {b = wellFormed (s .boards) t} (λ a. g (wellFormed-table (s .boards) t a)))
 
-    pub given-good : Table (s .boards) t → given ws t f ≡ f s
-    unfolding by-reading by-table
-    given-good h = ap by-reading means ∙ ap (by-table s) (T-true {b = wellFormed (s .boards) t} (table-wellFormed (s .boards) t h))
+    pub admitted-good : Table (s .boards) t → admitted ws t ≡ good s
+    unfolding admitted
+    admitted-good h = ap looked means ∙ ap (λ (b : Bool). need 6 b (good s)) (T-true {b = wellFormed (s .boards) t} (table-wellFormed (s .boards) t h))
+
+  -- what is known of what was admitted
+  pub admitted-out : (s : Sheet) → admitted ws t ≡ good s → (read ws ≡ good s) × Table (s .boards) t
+  unfolding admitted
+  admitted-out s p = by (read ws) refl p
+    where
+      by : (r : Reading Sheet) → read ws ≡ r → looked r ≡ good s → (r ≡ good s) × Table (s .boards) t
+      by (good u) e q = formed (wellFormed (u .boards) t) refl q
+        where
+          formed : (b : Bool) → wellFormed (u .boards) t ≡ b → need 6 b (good u) ≡ good s → (good u ≡ good s) × Table (s .boards) t
+          formed true f q = (q, let same : u ≡ s = cc in subst (λ (s : Sheet). Table (s .boards) t) same (wellFormed-table (u .boards) t (true-T f)))
+          formed false f q = clash (cc)
+      by (refused n) e q = clash (cc)
+
+  -- what a call comes to by that
+  module _ {L : Type 0} (l : L) (f : Sheet → Outcome L) where
+    by-reading : Reading Sheet → Outcome L
+    by-reading r = given r l f
+
+    pub given-refused : (n : ℕ) → read ws ≡ refused n → given (admitted ws t) l f ≡ refuse n 0 l
+    unfolding by-reading
+    given-refused n e = ap by-reading (admitted-refused n e)
+
+    module _ (s : Sheet) (means : read ws ≡ good s) where
+      pub given-no-table : (Table (s .boards) t → ⊥) → given (admitted ws t) l f ≡ refuse 6 0 l
+      unfolding by-reading
+      given-no-table g = ap by-reading (admitted-no-table s means g)
+
+      pub given-good : Table (s .boards) t → given (admitted ws t) l f ≡ f s
+      unfolding by-reading
+      given-good h = ap by-reading (admitted-good s means h)
 
 -- ---- arrangements
 

@@ -8,7 +8,7 @@ use native.Mathlib.Omega.{arith}
 use lib.Dec.{T, leb, ltb}
 use lib.ListN.{length, getD, take, drop}
 use Rattle.rules.specs.Expressions.{Value, value, malformed, expression}
-use Rattle.rules.specs.Descriptions.{mostWords, mostWays, RelationLine, KindLine, Sheet, WellFormed, Reading, good, refused, Front, need, next, meaning, relationLine, boardsOnly, kindLine, section, numbersFit, offsetsFit, relationLines, kindLines, read}
+use Rattle.rules.specs.Descriptions.{mostExpressionWords, mostWays, RelationLine, KindLine, Sheet, WellFormed, Reading, good, refused, Front, need, next, meaning, relationLine, boardsOnly, kindLine, section, numbersFit, offsetsFit, relationLines, kindLines, read}
 use Rattle.rules.proofs.Members.{All}
 use Rattle.rules.proofs.Readings.{never, need-test, need-rest, next-out}
 use Rattle.rules.proofs.Lines.{relation-out, kind-out, ways-length, boardsOnly-out}
@@ -141,7 +141,7 @@ relationLine-numbered v [] = omega arith
 relationLine-numbered v (p ∷ []) = omega arith
 relationLine-numbered v (p ∷ q ∷ []) = omega arith
 relationLine-numbered v (p ∷ q ∷ n ∷ ws) =
-    need-numbered 3 (leb 1 n && leb n mostWords && leb n (length ws)) _ (omega arith)
+    need-numbered 3 (leb 1 n && leb n mostExpressionWords && leb n (length ws)) _ (omega arith)
     (need-numbered 4 (ltb p v && ltb q v) _ (omega arith)
     (next-numbered (meaning (expression (take n ws))) _ (meaning-numbered (expression (take n ws))) (λ x. tt)))
 

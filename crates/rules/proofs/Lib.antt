@@ -24,4 +24,6 @@ pub mod FirstPair
 pub mod Order
 pub mod Search
 pub mod Calls
+pub mod Called
+pub mod Freshness
 pub mod Shown

@@ -8,7 +8,7 @@ use lib.Dec.{T, leb, ltb, leb→le, le→leb, ltb→lt, lt→ltb}
 use lib.ListN.{length, getD, take, drop, length-drop}
 use lib.Seq.{drop-drop, length-take-le}
 use Rattle.rules.specs.Expressions.{expression}
-use Rattle.rules.specs.Descriptions.{mostWords, mostWays, RelationLine, KindLine, Reading, good, refused, Front, need, next, meaning, boardsOnly, relationLine, kindLine}
+use Rattle.rules.specs.Descriptions.{mostExpressionWords, mostWays, RelationLine, KindLine, Reading, good, refused, Front, need, next, meaning, boardsOnly, relationLine, kindLine}
 use Rattle.rules.proofs.Tests.{and-T, T-and-left, T-and-right}
 use Rattle.rules.proofs.Members.{each-of-in, each-of-out, member-at, at-member}
 use Rattle.rules.proofs.Parts.{Suffix, drop-suffix}
@@ -16,16 +16,16 @@ use Rattle.rules.proofs.Readings.{never, need-test, need-rest, need-pas
 
 -- ---- the tests as orders of numbers
 
-length-in : (n l : ℕ) → 1 ≤ n → n ≤ mostWords → n ≤ l → T (leb 1 n && leb n mostWords && leb n l)
+length-in : (n l : ℕ) → 1 ≤ n → n ≤ mostExpressionWords → n ≤ l → T (leb 1 n && leb n mostExpressionWords && leb n l)
 length-in n l a b c =
-    and-T (leb 1 n && leb n mostWords) (leb n l) (and-T (leb 1 n) (leb n mostWords) (le→leb 1 n a) (le→leb n mostWords b)) (le→leb n l c)
+    and-T (leb 1 n && leb n mostExpressionWords) (leb n l) (and-T (leb 1 n) (leb n mostExpressionWords) (le→leb 1 n a) (le→leb n mostExpressionWords b)) (le→leb n l c)
 
-length-out : (n l : ℕ) → T (leb 1 n && leb n mostWords && leb n l) → (1 ≤ n) × (n ≤ mostWords) × (n ≤ l)
+length-out : (n l : ℕ) → T (leb 1 n && leb n mostExpressionWords && leb n l) → (1 ≤ n) × (n ≤ mostExpressionWords) × (n ≤ l)
 length-out n l t =
-    let u : T (leb 1 n && leb n mostWords) = T-and-left (leb 1 n && leb n mostWords) (leb n l) t in (
-      leb→le 1 n (T-and-left (leb 1 n) (leb n mostWords) u),
-      leb→le n mostWords (T-and-right (leb 1 n) (leb n mostWords) u),
-      leb→le n l (T-and-right (leb 1 n && leb n mostWords) (leb n l) t),
+    let u : T (leb 1 n && leb n mostExpressionWords) = T-and-left (leb 1 n && leb n mostExpressionWords) (leb n l) t in (
+      leb→le 1 n (T-and-left (leb 1 n) (leb n mostExpressionWords) u),
+      leb→le n mostExpressionWords (T-and-right (leb 1 n) (leb n mostExpressionWords) u),
+      leb→le n l (T-and-right (leb 1 n && leb n mostExpressionWords) (leb n l) t),
     )
 
 ways-in : (n l : ℕ) → n ≤ mostWays → n ≤ l → T (leb n mostWays && leb n l)
@@ -60,7 +60,7 @@ line-suffix n ws h l = subst (Suffix ws) (sym (drop-drop n 3 ws)) (drop-suffix (
 pub record LengthFits (ws : List ℕ) : Type 0 where
   pub three : 3 ≤ length ws
   pub low : 1 ≤ getD ws 2 0
-  pub high : getD ws 2 0 ≤ mostWords
+  pub high : getD ws 2 0 ≤ mostExpressionWords
   pub room : getD ws 2 0 ≤ length ws - 3
 
 pub record OnBoards (v : ℕ) (ws : List ℕ) : Type 0 where
@@ -77,7 +77,7 @@ module _ (v : ℕ) (ws : List ℕ) where
   read-relation = next (meaning (expression (take (getD ws 2 0) (drop 3 ws)))) (λ x. good (relation-front x))
 
   length-test : Bool
-  length-test = leb 1 (getD ws 2 0) && leb (getD ws 2 0) mostWords && leb (getD ws 2 0) (length (drop 3 ws))
+  length-test = leb 1 (getD ws 2 0) && leb (getD ws 2 0) mostExpressionWords && leb (getD ws 2 0) (length (drop 3 ws))
 
   boards-test : Bool
   boards-test = ltb (getD ws 0 0) v && ltb (getD ws 1 0) v
@@ -97,7 +97,7 @@ relation-words v (p ∷ q ∷ []) h = let z : ⊥ = omega arith in absurd z
 relation-words v (p ∷ q ∷ n ∷ ws) h = refl
 
 module _ (v : ℕ) (ws : List ℕ) where
-  pub relation-misfits : 3 ≤ length ws → (1 ≤ getD ws 2 0 → getD ws 2 0 ≤ mostWords → getD ws 2 0 ≤ length ws - 3 → ⊥) → relationLine v ws ≡ refused 3
+  pub relation-misfits : 3 ≤ length ws → (1 ≤ getD ws 2 0 → getD ws 2 0 ≤ mostExpressionWords → getD ws 2 0 ≤ length ws - 3 → ⊥) → relationLine v ws ≡ refused 3
   unfolding length-test
   relation-misfits three f =
       relation-words v ws three ∙ need-failed 3 (length-test v ws) _ (λ t.
@@ -132,7 +132,7 @@ relation-out v [] f e = never 3 f e
 relation-out v (p ∷ []) f e = never 3 f e
 relation-out v (p ∷ q ∷ []) f e = never 3 f e
 relation-out v (p ∷ q ∷ n ∷ ws) f e =
-    let fits = leb 1 n && leb n mostWords && leb n (length ws) in
+    let fits = leb 1 n && leb n mostExpressionWords && leb n (length ws) in
     let second = need-rest 3 fits _ f e in
     let c = next-out (meaning (expression (take n ws))) _ f (need-rest 4 (ltb p v && ltb q v) _ f second) in
     let g : good (relation-front v (p ∷ q ∷ n ∷ ws) (c .0)) ≡ good f = c .2 in

@@ -4,64 +4,66 @@ use mathlib.Core.Bool.{Bool, true, false, _&&_}
 use mathlib.Core.List.{List}
 use Prim.Native.Nat.{ℕ, _*_}
 use lib.Dec.{leb, ltb, eqb}
-use lib.ListN.{length, replicate}
-use Rattle.rules.specs.Relations.{eachOf, setLimit, full, size, within}
-use Rattle.rules.specs.Descriptions.{Sheet, good, refused, read, mostBoards}
-use Rattle.rules.specs.Tables.{cell, emptied}
+use lib.ListN.{length}
+use Rattle.rules.specs.Relations.{eachOf, setLimit, size, within}
+use Rattle.rules.specs.Descriptions.{Sheet, Reading, good, refused, need, next, read, mostBoards}
+use Rattle.rules.specs.Tables.{cell, filled, emptied}
 use Rattle.rules.specs.Closed.{strikes}
 use Rattle.rules.specs.Closing.{Rule, rules, closing}
 use Rattle.rules.specs.Search.{found, none, Capped, ended, ranOut, search, cap}
 
--- a number, a count, and the lent table afterwards
-pub record Outcome : Type 0 where
+-- a number, a count, and what is lent as it is afterwards
+pub record Outcome (L : Type 0) : Type 0 where
   pub number : ℕ
   pub count : ℕ
-  pub table : List ℕ
+  pub lent : L
 
--- all refusals leave the lent table as it came
-abbrev pub refuse : ℕ → ℕ → List ℕ → Outcome
-refuse n c t = record { number = n; count = c; table = t }
+module _ {L : Type 0} where
+  -- all refusals leave what is lent as it came
+  abbrev pub refuse : ℕ → ℕ → L → Outcome L
+  refuse n c l = record { number = n; count = c; lent = l }
 
-abbrev pub succeed : ℕ → List ℕ → Outcome
-succeed c t = record { number = 0; count = c; table = t }
+  abbrev pub succeed : ℕ → L → Outcome L
+  succeed c l = record { number = 0; count = c; lent = l }
 
 -- 6: the table hasn't V times V cells, or a cell is above 15
 unfoldable pub wellFormed : ℕ → List ℕ → Bool
 wellFormed v t = eqb (length t) (v * v) && eachOf (λ x. ltb x setLimit) t
 
--- 1 to 5 and then 6 come before the rest
-abbrev pub given : List ℕ → List ℕ → (Sheet → Outcome) → Outcome
-given ws t f =
-    elim (read ws) [
-      | good s ↦ elim (wellFormed (s .boards) t) [ true ↦ f s | false ↦ refuse 6 0 t ]
-      | refused n ↦ refuse n 0 t
-    ]
+-- the description that is meant, once 1 to 5 and then 6 have been looked for
+unfoldable pub admitted : List ℕ → List ℕ → Reading Sheet
+admitted ws t = next (read ws) (λ s. need 6 (wellFormed (s .boards) t) (good s))
+
+-- what is lent as it came where the reading was refused, or what comes of what was read
+abbrev pub given : {X L : Type 0} → Reading X → L → (X → Outcome L) → Outcome L
+given (good x) l f = f x
+given (refused n) l f = refuse n 0 l
 
 -- reading: 0 to 5
 unfoldable pub reading : List ℕ → ℕ
 reading ws = elim (read ws) [ good s ↦ 0 | refused n ↦ n ]
 
 -- the fresh table: filled with 15; 1 where V is out of range, then 6 for a wrong number of cells
-unfoldable pub fresh : ℕ → List ℕ → Outcome
+unfoldable pub fresh : ℕ → List ℕ → Outcome (List ℕ)
 fresh v t =
     elim (leb 1 v && leb v mostBoards) [
-      | true ↦ elim (eqb (length t) (v * v)) [ true ↦ succeed 0 (replicate (v * v) full) | false ↦ refuse 6 0 t ]
+      | true ↦ elim (eqb (length t) (v * v)) [ true ↦ succeed 0 (filled v) | false ↦ refuse 6 0 t ]
       | false ↦ refuse 1 0 t
     ]
 
 -- closing: the relations struck; 7 where the largest closed table has an empty cell
-unfoldable pub close : List ℕ → List ℕ → Outcome
+unfoldable pub close : List ℕ → List ℕ → Outcome (List ℕ)
 close ws t =
-    given ws t (λ s. let u = closing s t in elim (emptied u) [ true ↦ refuse 7 0 t | false ↦ succeed (strikes t u) u ])
+    given (admitted ws t) t (λ s. let u = closing s t in elim (emptied u) [ true ↦ refuse 7 0 t | false ↦ succeed (strikes t u) u ])
 
 -- searching: the tries made; 8 where there is none, with the tries made; 9 where the budget ran out, with the budget
-abbrev pub answer : List ℕ → Capped → Outcome
+abbrev pub answer : List ℕ → Capped → Outcome (List ℕ)
 answer t (ended (found n w)) = succeed n w
 answer t (ended (none n)) = refuse 8 n t
 answer t (ranOut b) = refuse 9 b t
 
-unfoldable pub searching : List ℕ → List ℕ → List ℕ → ℕ → Outcome
-searching ord ws t b = given ws t (λ s. answer t (cap b (search (closing s) ord (s .boards) t)))
+unfoldable pub searching : List ℕ → List ℕ → List ℕ → ℕ → Outcome (List ℕ)
+searching ord ws t b = given (admitted ws t) t (λ s. answer t (cap b (search (closing s) ord (s .boards) t)))
 
 -- the rule strikes nothing, as a test
 abbrev pub idle : ℕ → List ℕ → Rule → Bool
@@ -72,5 +74,5 @@ unfoldable pub arranged : Sheet → List ℕ → Bool
 arranged s t = eachOf (λ x. eqb (size x) 1) t && eachOf (idle (s .boards) t) (rules s)
 
 -- the check says yes exactly if the table is an arrangement: 10 where it is none
-unfoldable pub check : List ℕ → List ℕ → Outcome
-check ws t = given ws t (λ s. elim (arranged s t) [ true ↦ succeed 0 t | false ↦ refuse 10 0 t ])
+unfoldable pub check : List ℕ → List ℕ → Outcome (List ℕ)
+check ws t = given (admitted ws t) t (λ s. elim (arranged s t) [ true ↦ succeed 0 t | false ↦ refuse 10 0 t ])

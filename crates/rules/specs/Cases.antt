@@ -1,24 +1,15 @@
--- The sites to try that 01 marks P, as one table, with a few more behind them. `describe` writes a description from the words of its lines.
+-- The sites to try that 01 marks P, as one table, with a few more behind them.
 -- Assumes nothing.
 use mathlib.Core.Path.{_≡_}
-use mathlib.Core.List.{List, [], _∷_, _++_, flatten}
-use Prim.Native.Nat.{ℕ, _+_, _*_}
+use mathlib.Core.List.{List, [], _∷_, _++_}
+use Prim.Native.Nat.{ℕ}
 use lib.ListN.{length, replicate}
-use Rattle.rules.specs.Relations.{same, above, below, side, full, compose}
+use Rattle.rules.specs.Relations.{same, above, below, side, compose}
 use Rattle.rules.specs.Expressions.{value, expression}
+use Rattle.rules.specs.Descriptions.{describe}
+use Rattle.rules.specs.Tables.{filled}
 use Rattle.rules.specs.Search.{plainOrder}
 use Rattle.rules.specs.Calls.{refuse, succeed, reading, close, searching, check}
-
--- the words of a description of v boards with these relation lines and kind lines
-abbrev pub describe : ℕ → List (List ℕ) → List (List ℕ) → List ℕ
-describe v ls ks =
-    let lines = flatten ls in
-    let kinds = flatten ks in
-    v ∷ length ls ∷ length ks ∷ 6 ∷ (6 + length lines) ∷ (6 + length lines + length kinds) ∷ (lines ++ kinds)
-
--- a full table
-abbrev pub filled : ℕ → List ℕ
-filled v = replicate (v * v) full
 
 pub data Case : Type 0 where
   -- sets x and y compose to z
@@ -42,23 +33,23 @@ pub data Case : Type 0 where
   -- the check rejects this table
   rejects : (v : ℕ) (lines kinds : List (List ℕ)) (table : List ℕ) → Case
 
-abbrev pub Holds : Case → Type 0
-Holds (composes x y z) = compose x y ≡ z
-Holds (means ws x) = expression ws ≡ value x []
-Holds (answers ws n) = reading ws ≡ n
-Holds (closes v ls ks n u) = close (describe v ls ks) (filled v) ≡ succeed n u
-Holds (clashes v ls ks) = close (describe v ls ks) (filled v) ≡ refuse 7 0 (filled v)
-Holds (finds v ls ks n u) = searching plainOrder (describe v ls ks) (filled v) n ≡ succeed n u
-Holds (exhausts v ls ks n) = searching plainOrder (describe v ls ks) (filled v) n ≡ refuse 8 n (filled v)
-Holds (runsOut v ls ks b) = searching plainOrder (describe v ls ks) (filled v) b ≡ refuse 9 b (filled v)
-Holds (accepts v ls ks u) = check (describe v ls ks) u ≡ succeed 0 u
-Holds (rejects v ls ks u) = check (describe v ls ks) u ≡ refuse 10 0 u
+abbrev pub CaseHolds : Case → Type 0
+CaseHolds (composes x y z) = compose x y ≡ z
+CaseHolds (means ws x) = expression ws ≡ value x []
+CaseHolds (answers ws n) = reading ws ≡ n
+CaseHolds (closes v ls ks n u) = close (describe v ls ks) (filled v) ≡ succeed n u
+CaseHolds (clashes v ls ks) = close (describe v ls ks) (filled v) ≡ refuse 7 0 (filled v)
+CaseHolds (finds v ls ks n u) = searching plainOrder (describe v ls ks) (filled v) n ≡ succeed n u
+CaseHolds (exhausts v ls ks n) = searching plainOrder (describe v ls ks) (filled v) n ≡ refuse 8 n (filled v)
+CaseHolds (runsOut v ls ks b) = searching plainOrder (describe v ls ks) (filled v) b ≡ refuse 9 b (filled v)
+CaseHolds (accepts v ls ks u) = check (describe v ls ks) u ≡ succeed 0 u
+CaseHolds (rejects v ls ks u) = check (describe v ls ks) u ≡ refuse 10 0 u
 
 -- each of these cases holds
 infixr 5 _also_
 pub data AllHold : List Case → Type 0 where
   done : AllHold []
-  _also_ : {c : Case} {cs : List Case} → Holds c → AllHold cs → AllHold (c ∷ cs)
+  _also_ : {c : Case} {cs : List Case} → CaseHolds c → AllHold cs → AllHold (c ∷ cs)
 
 -- relation lines: one relation, either of two, "at or above", "not below"; and a kind line of code 7
 abbrev pub is : ℕ → ℕ → ℕ → List ℕ

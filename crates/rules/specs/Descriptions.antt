@@ -1,8 +1,8 @@
 -- Descriptions (01, 'The description' and 'Refusal numbers' 1 to 5): the meaning of a run of words, or its first refusal.
 -- Assumes nothing.
 use mathlib.Core.Bool.{Bool, true, false, _&&_}
-use mathlib.Core.List.{List, [], _∷_, List·Memᴰ}
-use Prim.Native.Nat.{ℕ, zero, suc, _-_, _≤_, _<_}
+use mathlib.Core.List.{List, [], _∷_, _++_, flatten, List·Memᴰ}
+use Prim.Native.Nat.{ℕ, zero, suc, _+_, _-_, _*_, _/_, _≤_, _<_}
 use lib.Dec.{leb, ltb, eqb}
 use lib.ListN.{length, getD, take, drop}
 use Rattle.rules.specs.Relations.{eachOf}
@@ -18,11 +18,21 @@ mostLines = 128
 abbrev pub mostKinds : ℕ
 mostKinds = 16
 
-abbrev pub mostWords : ℕ
-mostWords = 15
+abbrev pub mostExpressionWords : ℕ
+mostExpressionWords = 15
 
 abbrev pub mostWays : ℕ
 mostWays = 8
+
+-- the words of the longest description, the most cells of a table and the most pairs of boards
+abbrev pub mostWords : ℕ
+mostWords = 6 + mostLines * (3 + mostExpressionWords) + mostKinds * (3 + mostWays)
+
+abbrev pub mostCells : ℕ
+mostCells = mostBoards * mostBoards
+
+abbrev pub mostPairs : ℕ
+mostPairs = mostBoards * (mostBoards - 1) / 2
 
 -- (p, q) is in the set
 pub record RelationLine : Type 0 where
@@ -73,7 +83,7 @@ relationLine v [] = refused 3
 relationLine v (p ∷ []) = refused 3
 relationLine v (p ∷ q ∷ []) = refused 3
 relationLine v (p ∷ q ∷ n ∷ ws) =
-    need 3 (leb 1 n && leb n mostWords && leb n (length ws))
+    need 3 (leb 1 n && leb n mostExpressionWords && leb n (length ws))
     (need 4 (ltb p v && ltb q v)
     (next (meaning (expression (take n ws)))
     (λ x. good (record { line = record { p = p; q = q; allowed = x }; rest = drop n ws }))))
@@ -128,3 +138,10 @@ pub record WellFormed (s : Sheet) : Type 0 where
   pub lines : (length (s .lines) ≤ mostLines) × ((l : RelationLine) → List·Memᴰ l (s .lines) → (l .p < s .boards) × (l .q < s .boards))
   pub kinds : (length (s .kinds) ≤ mostKinds) × ((k : KindLine) → List·Memᴰ k (s .kinds)
       → (k .p < s .boards) × (length (k .ways) ≤ mostWays) × ((i : ℕ) → i < length (k .ways) → getD (k .ways) i 0 < s .boards))
+
+-- the words of a description of v boards with these relation lines and kind lines
+abbrev pub describe : ℕ → List (List ℕ) → List (List ℕ) → List ℕ
+describe v ls ks =
+    let lines = flatten ls in
+    let kinds = flatten ks in
+    v ∷ length ls ∷ length ks ∷ 6 ∷ (6 + length lines) ∷ (6 + length lines + length kinds) ∷ (lines ++ kinds)

@@ -5,8 +5,8 @@ use mathlib.Core.Bool.{Bool}
 use mathlib.Core.List.{List, [], _∷_}
 use Prim.Native.Nat.{ℕ, zero, suc, _+_, _*_, _<_}
 use lib.Dec.{eqb}
-use lib.ListN.{length, getD, set}
-use Rattle.rules.specs.Relations.{someOf, setLimit, meet, _liesWithin_, size}
+use lib.ListN.{length, getD, set, replicate}
+use Rattle.rules.specs.Relations.{someOf, setLimit, full, meet, _liesWithin_, size}
 use Rattle.rules.specs.Descriptions.{Sheet}
 
 -- cell (p, q) of a table of v boards
@@ -21,6 +21,10 @@ at s t p q = cell (s .boards) t p q
 pub record Table (v : ℕ) (t : List ℕ) : Type 0 where
   pub cells : length t ≡ v * v
   pub small : (k : ℕ) → getD t k 0 < setLimit
+
+-- the full table of v boards: nothing is known of it
+abbrev pub filled : ℕ → List ℕ
+filled v = replicate (v * v) full
 
 -- the table t with its cell k narrowed to what the set b has too
 abbrev pub narrowed : List ℕ → ℕ → ℕ → List ℕ

@@ -1,12 +1,9 @@
--- `search` takes whatever it is lent, and any two answers and tables that its contract permits are equal. Assumes nothing.
+-- Any two answers and tables that the contract of `search_table` permits are equal. Assumes nothing.
 use mathlib.Core.Path.{sym, _∙_}
-use Rattle.contracts.specs.Contracts.{AsksNothing, OneOutcome}
+use Rattle.contracts.specs.Contracts.{OneOutcome}
 use Rattle.answers.proofs.Outcomes.{outcome-determined}
-use Rattle.search.proofs.search.Kinds as search-kinds
-use Rattle.search.proofs.search.Reads as search
+use Rattle.search.proofs.search_table.Kinds as table-kinds
+use Rattle.search.proofs.search_table.Reads as table
 
-pub search-asks-nothing : AsksNothing 2 search-kinds.ps search.Asked
-search-asks-nothing κs a = tt
-
-pub search-determined : OneOutcome 2 search-kinds.ps search-kinds.r search.Asked search.Learnt (λ κs e. e .1 .0 .now)
-search-determined κs a asked x y d e p q = outcome-determined x y (d .1 .0 .now) (e .1 .0 .now) (p ∙ sym q)
+pub search-table-determined : OneOutcome 3 table-kinds.ps table-kinds.r table.Asked table.Learnt (λ κs e. e .1 .1 .1 .1 .0 .now)
+search-table-determined κs a asked x y d e p q = outcome-determined x y (d .1 .1 .1 .1 .0 .now) (e .1 .1 .1 .1 .0 .now) (p ∙ sym q)

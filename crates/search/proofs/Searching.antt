@@ -7,96 +7,94 @@ use lib.Dec.{T}
 use lib.Pow.{pow-pos}
 use lib.ListN.{length, getD, replicate, length-replicate}
 use Rattle.rules.specs.Relations.{relations, setLimit}
-use Rattle.rules.specs.Descriptions.{mostBoards, Sheet, good, refused, read}
+use Rattle.rules.specs.Descriptions.{mostPairs, mostBoards, Sheet, good, read}
 use Rattle.rules.specs.Tables.{Table, emptied}
 use Rattle.rules.specs.Closed.{Largest}
 use Rattle.rules.specs.Closing.{closing}
 use Rattle.rules.specs.Search.{End, found, none, choose, places, search, Capped, ended, ranOut, cap}
-use Rattle.rules.specs.Calls.{Outcome, refuse, answer, searching}
+use Rattle.rules.specs.Calls.{refuse, succeed, answer, searching}
 use Rattle.rules.proofs.Members.{zeros}
 use Rattle.rules.proofs.Largest.{closing-largest, largest-unique}
 use Rattle.rules.proofs.Search.{cap-in}
-use Rattle.rules.proofs.Calls.{given-refused, given-no-table, given-good}
-use Rattle.passes.specs.Passes.{Filled, Ready}
+use Rattle.rules.proofs.Called.{search-good}
+use Rattle.passes.specs.Passes.{Filled}
+use Rattle.answers.specs.declared.Answer.{Answer}
+use Rattle.answers.specs.Answers.{answered, outcome}
+use Rattle.headers.specs.declared.Header.{Header}
 use Rattle.sweeps.specs.declared.Swept.{Swept}
 use Rattle.sweeps.specs.declared.Swept.the-variants.{Struck, Emptied}
-use Rattle.settling.specs.Closes.{Closes, closes}
-use Rattle.tries.specs.declared.Ended.{Ended}
-use Rattle.tries.specs.declared.Ended.the-variants.{Arranged, Nowhere, RanOut}
-use Rattle.tries.specs.Choices.{Bytes}
-use Rattle.tries.specs.Hunts.{Whole}
-use Rattle.tries.specs.Tries.{mostPairs, ends}
+use Rattle.closing.specs.Closes.{Admitted, closes, ClosesUnder}
+use Rattle.closing.proofs.Calling.{admitted-closes}
+use Rattle.choosing.specs.declared.Ended.{Ended}
+use Rattle.choosing.specs.declared.Ended.the-variants.{Arranged, Nowhere, RanOut}
+use Rattle.choosing.specs.Choices.{Bytes}
+use Rattle.choosing.specs.Standings.{Whole}
+use Rattle.choosing.specs.Tries.{Under, ends}
 use Rattle.search.specs.Rooms.{concluded}
-use Rattle.tries.proofs.Walking.{pairs-most}
-use Rattle.tries.proofs.Resuming.{proceed-none, proceed-on}
+use Rattle.choosing.proofs.Walking.{pairs-most}
+use Rattle.choosing.proofs.Resuming.{proceed-none, proceed-on}
 
-module _ (ord ws t : List ℕ) (b : ℕ) where
-  after : Sheet → Outcome
-  after s = answer t (cap b (search (closing s) ord (s .boards) t))
+module _ (ord ws t : List ℕ) (b : ℕ) (s : Sheet) (means : read ws ≡ good s) (table : Table (s .boards) t) where
+  -- a contradiction means none, with 0 tries
+  search-clash : T (emptied (closing s t)) → refuse 8 0 t ≡ searching ord ws t b
+  unfolding search
+  search-clash e =
+      sym
+      (search-good t ws s means table ord b
+      ∙ ap (λ (x : End). answer t (cap b x)) (proceed-none (λ u. choose (closing s) ord (places (s .boards)) u) (closing s t) e)
+      ∙ ap (answer t) (cap-in b (none 0) (omega arith)))
 
-  pub search-refused : (n : ℕ) → read ws ≡ refused n → refuse n 0 t ≡ searching ord ws t b
-  unfolding searching after
-  search-refused n e = sym (given-refused ws t after n e)
+  -- otherwise what the tries from the closed table on come to
+  module _ (first : List ℕ) (largest : Largest s t first) (filled : Filled first) where
+    on : search (closing s) ord (s .boards) t ≡ choose (closing s) ord (places (s .boards)) first
+    unfolding search
+    on =
+        let e : closing s t ≡ first = largest-unique (closing-largest s t table) largest in
+        proceed-on (λ u. choose (closing s) ord (places (s .boards)) u) (closing s t) (subst Filled (sym e) filled)
+        ∙ ap (choose (closing s) ord (places (s .boards))) e
 
-  module _ (s : Sheet) (means : read ws ≡ good s) where
-    pub search-no-table : (Table (s .boards) t → ⊥) → refuse 6 0 t ≡ searching ord ws t b
-    unfolding searching after
-    search-no-table f = sym (given-no-table ws t after s means f)
+    search-ended : (w : List ℕ) (r : Ended) → ends (choose (closing s) ord (places (s .boards)) first) b w r → concluded t b w r ≡ searching ord ws t b
+    search-ended w r e = by r e
+      where
+        whole : (c : Capped) → cap b (choose (closing s) ord (places (s .boards)) first) ≡ c → answer t c ≡ searching ord ws t b
+        whole c e = sym (search-good t ws s means table ord b ∙ ap (λ (x : End). answer t (cap b x)) on ∙ ap (answer t) e)
 
-    module _ (table : Table (s .boards) t) where
-      pub search-good : searching ord ws t b ≡ answer t (cap b (search (closing s) ord (s .boards) t))
-      unfolding searching after
-      search-good = given-good ws t after s means table
+        by : (r : Ended) → ends (choose (closing s) ord (places (s .boards)) first) b w r → concluded t b w r ≡ searching ord ws t b
+        by (Arranged n) e = whole (ended (found n w)) e
+        by (Nowhere n) e = whole (ended (none n)) e
+        by RanOut e = whole (ranOut b) e
 
-      -- a contradiction means none, with 0 tries
-      pub search-clash : T (emptied (closing s t)) → refuse 8 0 t ≡ searching ord ws t b
-      unfolding search
-      search-clash e =
-          sym
-          (search-good
-          ∙ ap (λ (x : End). answer t (cap b x)) (proceed-none (λ u. choose (closing s) ord (places (s .boards)) u) (closing s t) e)
-          ∙ ap (answer t) (cap-in b (none 0) (omega arith)))
-
-      -- otherwise what the tries from the closed table on come to
-      module _ (first : List ℕ) (largest : Largest s t first) (filled : Filled first) where
-        on : search (closing s) ord (s .boards) t ≡ choose (closing s) ord (places (s .boards)) first
-        unfolding search
-        on =
-            let e : closing s t ≡ first = largest-unique (closing-largest s t table) largest in
-            proceed-on (λ u. choose (closing s) ord (places (s .boards)) u) (closing s t) (subst Filled (sym e) filled)
-            ∙ ap (choose (closing s) ord (places (s .boards))) e
-
-        pub search-ended : (w : List ℕ) (r : Ended) → ends (choose (closing s) ord (places (s .boards)) first) b w r → concluded t b w r ≡ searching ord ws t b
-        search-ended w r e = by r e
-          where
-            whole : (c : Capped) → cap b (choose (closing s) ord (places (s .boards)) first) ≡ c → answer t c ≡ searching ord ws t b
-            whole c e = sym (search-good ∙ ap (λ (x : End). answer t (cap b x)) on ∙ ap (answer t) e)
-
-            by : (r : Ended) → ends (choose (closing s) ord (places (s .boards)) first) b w r → concluded t b w r ≡ searching ord ws t b
-            by (Arranged n) e = whole (ended (found n w)) e
-            by (Nowhere n) e = whole (ended (none n)) e
-            by RanOut e = whole (ranOut b) e
-
--- ---- the same of a copy u of the table, which was closed to first
+-- ---- the same of a table that was admitted, whose copy u was closed to first
 
 pub first-whole : (s : Sheet) (u first : List ℕ) {r : Swept} {n : ℕ} → r ≡ Struck n → closes s u first r → Whole s first
 first-whole s u first e closed =
     let k = subst (closes s u first) e closed in record { table = k .largest .table; closed = k .largest .closed; filled = k .filled }
 
-module _ (ord ws t : List ℕ) (b : ℕ) {s : Sheet} (means : read ws ≡ good s) {v : ℕ} (boards : v ≡ s .boards) (ready : Ready v t) {u : List ℕ} (copy : u ≡ t) (first : List ℕ)
-    (r : Swept) (closed : closes s u first r) where
-  table : Table (s .boards) t
-  table = subst (λ (n : ℕ). Table n t) boards (ready .table)
+module _ {h : Header} {ws t u : List ℕ} (admitted : Admitted h ws t) (copy : u ≡ t) (first : List ℕ) (r : Swept) (closed : ClosesUnder ws u first r) where
+  module _ (ord : List ℕ) (b : ℕ) where
+    pub search-emptied : {a : Answer} → r ≡ Emptied → a ≡ answered 8 0 → outcome a t ≡ searching ord ws t b
+    search-emptied e f =
+        let d = admitted-closes admitted copy first r closed in
+        ap (λ (a : Answer). outcome a t) f ∙ search-clash ord ws t b (d .0) (d .1) (d .2) (subst (closes (d .0) t first) e (d .3))
 
-  pub search-emptied : r ≡ Emptied → refuse 8 0 t ≡ searching ord ws t b
-  search-emptied e =
-      search-clash ord ws t b s means table (subst (λ (x : List ℕ). T (emptied (closing s x))) copy (subst (closes s u first) e closed))
+    pub search-struck : {n : ℕ} → r ≡ Struck n → (w : List ℕ) (e : Ended) → Under ws (λ s. ends (choose (closing s) ord (places (s .boards)) first) b w e)
+        → concluded t b w e ≡ searching ord ws t b
+    search-struck f w e how =
+        let d = admitted-closes admitted copy first r closed in
+        let k = subst (closes (d .0) t first) f (d .3) in
+        search-ended ord ws t b (d .0) (d .1) (d .2) first (k .largest) (k .filled) w e (how (d .0) (d .1))
 
-  pub search-struck : {n : ℕ} → r ≡ Struck n → (w : List ℕ) (e : Ended) → ends (choose (closing s) ord (places (s .boards)) first) b w e
-      → concluded t b w e ≡ searching ord ws t b
-  search-struck {n} f w e h =
-      let k : Closes s t first n = subst (λ (x : List ℕ). Closes s x first n) copy (subst (closes s u first) f closed) in
-      search-ended ord ws t b s means table first (k .largest) (k .filled) w e h
+-- ---- the answer, by how the tries ended
+
+module _ (t : List ℕ) (b : ℕ) (w : List ℕ) {e : Ended} {a : Answer} where
+  pub concludes-arranged : {x : List ℕ} {n : ℕ} → e ≡ Arranged n → x ≡ w → a ≡ answered 0 n → outcome a x ≡ concluded t b w e
+  concludes-arranged {x} {n} f g h = ap (λ (a : Answer). outcome a x) h ∙ ap (succeed n) g ∙ ap (concluded t b w) (sym f)
+
+  pub concludes-nowhere : {n : ℕ} → e ≡ Nowhere n → a ≡ answered 8 n → outcome a t ≡ concluded t b w e
+  concludes-nowhere f h = ap (λ (a : Answer). outcome a t) h ∙ ap (concluded t b w) (sym f)
+
+  pub concludes-ran-out : e ≡ RanOut → a ≡ answered 9 b → outcome a t ≡ concluded t b w e
+  concludes-ran-out f h = ap (λ (a : Answer). outcome a t) h ∙ ap (concluded t b w) (sym f)
 
 -- ---- room for the choices
 

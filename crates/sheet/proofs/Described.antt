@@ -8,10 +8,10 @@ use Rattle.rules.specs.Descriptions.{mostBoards, RelationLine, KindLine, Sheet,
 use Rattle.rules.proofs.Tests.{clash, true-T}
 use Rattle.rules.proofs.Parts.{tail}
 use Rattle.rules.proofs.Headers.{numbers-out, places-out}
-use Rattle.lines.specs.declared.refusals.Refusal.{Refusal}
+use Rattle.answers.specs.declared.refusals.Refusal.{Refusal}
 use Rattle.headers.specs.declared.Header.{Header}
 use Rattle.headers.specs.declared.HeaderFound.the-variants.{Good, Refused}
-use Rattle.lines.specs.Found.{refusal}
+use Rattle.answers.specs.Answers.{refusal}
 use Rattle.headers.specs.Found.{numbers, numbersFound}
 use Rattle.sheet.specs.Found.{descriptionFound}
 
@@ -20,10 +20,10 @@ pub record Described (ws : List ℕ) (h : Header) (s : Sheet) : Type 0 where
   pub means : read ws ≡ good s
   pub boards : h .boards ≡ s .boards
   pub few : h .boards ≤ mostBoards
-  pub after : 6 ≤ h .middle
-  pub within : h .middle ≤ length ws
-  pub lines : section (relationLine (h .boards)) (h .lines) (take (h .middle - 6) (drop 6 ws)) ≡ good (s .lines)
-  pub kinds : section (kindLine (h .boards)) (h .kinds) (take (length ws - h .middle) (drop (h .middle) ws)) ≡ good (s .kinds)
+  pub after : 6 ≤ h .kinds .at
+  pub within : h .kinds .at ≤ length ws
+  pub lines : section (relationLine (h .boards)) (h .lines .count) (take (h .kinds .at - 6) (drop 6 ws)) ≡ good (s .lines)
+  pub kinds : section (kindLine (h .boards)) (h .kinds .count) (take (length ws - h .kinds .at) (drop (h .kinds .at) ws)) ≡ good (s .kinds)
 
 module _ (ws : List ℕ) where
   -- the description by its two tests and its two sections

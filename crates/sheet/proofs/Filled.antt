@@ -7,9 +7,9 @@ use lib.ListN.{length, take, drop}
 use Rattle.rules.specs.Descriptions.{Reading, good, refused, Front, section}
 use Rattle.rules.proofs.Parts.{Suffix, tail}
 use Rattle.rules.proofs.Walks.{Walk, walk-refused, walk-next, walk-over, walk-filled}
-use Rattle.lines.specs.declared.refusals.Refusal.{Refusal}
+use Rattle.answers.specs.declared.refusals.Refusal.{Refusal}
 use Rattle.sheet.specs.declared.sections.SectionFound.the-variants.{Filled, Refused}
-use Rattle.lines.specs.Found.{refusal}
+use Rattle.answers.specs.Answers.{refusal}
 use Rattle.sheet.specs.Found.{sectionFound, endFound}
 
 -- a section after its last line
@@ -22,20 +22,21 @@ end-filled zero h = refl
 end-filled (suc n) h = let z : ⊥ = omega arith in absurd z
 
 -- at the word `at`, with `left` lines to go, off the part of the words that code lends
-module _ {X : Type 0} (line : List ℕ → Reading (Front X)) (count : ℕ) (ws : List ℕ) {at left : ℕ} (w : Walk line count ws at left) where
+module _ {X : Type 0} {line : List ℕ → Reading (Front X)} {count : ℕ} {ws : List ℕ} {at left : ℕ} (w : Walk line count ws at left) where
   lent : {r : Reading (Front X)} → line (take (length ws - at) (drop at ws)) ≡ r → line (drop at ws) ≡ r
   lent {r} e = subst (λ (us : List ℕ). line us ≡ r) (tail at ws) e
 
-  pub found-refused : (q : Refusal) → 0 < left → (n : ℕ) × (line (take (length ws - at) (drop at ws)) ≡ refused n) × (q ≡ refusal n)
-      → Refused q ≡ sectionFound (section line count ws)
-  found-refused q h r = ap Refused (r .2) ∙ sym (ap sectionFound (walk-refused line count ws w (r .0) h (lent (r .1))))
+  module _ (more : 0 < left) where
+    pub found-refused : {q : Refusal} → (n : ℕ) × (line (take (length ws - at) (drop at ws)) ≡ refused n) × (q ≡ refusal n)
+        → Refused q ≡ sectionFound (section line count ws)
+    found-refused r = ap Refused (r .2) ∙ sym (ap sectionFound (walk-refused line count ws w (r .0) more (lent (r .1))))
 
-  pub found-next : (k : ℕ) → ((us : List ℕ) (f : Front X) → line us ≡ good f → Suffix us (f .rest)) → 0 < left
-      → (f : Front X) × (line (take (length ws - at) (drop at ws)) ≡ good f) × (length (f .rest) ≡ k)
-      → (k ≤ length ws) × Walk line count ws (length ws - k) (left - 1)
-  found-next k suffix h r =
-      subst (λ (n : ℕ). (n ≤ length ws) × Walk line count ws (length ws - n) (left - 1)) (r .2)
-      (walk-next line count ws w (r .0) h (lent (r .1)) (suffix (drop at ws) (r .0) (lent (r .1))))
+    pub found-next : {k : ℕ} → ((us : List ℕ) (f : Front X) → line us ≡ good f → Suffix us (f .rest))
+        → (f : Front X) × (line (take (length ws - at) (drop at ws)) ≡ good f) × (length (f .rest) ≡ k)
+        → (k ≤ length ws) × Walk line count ws (length ws - k) (left - 1)
+    found-next suffix r =
+        subst (λ (n : ℕ). (n ≤ length ws) × Walk line count ws (length ws - n) (left - 1)) (r .2)
+        (walk-next line count ws w (r .0) more (lent (r .1)) (suffix (drop at ws) (r .0) (lent (r .1))))
 
   pub found-end : left ≤ 0 → endFound (length ws - at) ≡ sectionFound (section line count ws)
   found-end h = go (length ws - at) refl

@@ -1,4 +1,5 @@
 -- The laws behind the functions of this crate.
+pub mod Fronts
 pub mod Filled
 pub mod Described
 pub mod Wholes

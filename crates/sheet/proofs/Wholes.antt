@@ -9,7 +9,7 @@ use Rattle.rules.specs.Calls.{reading}
 use Rattle.rules.proofs.Tests.{clash, true-T}
 use Rattle.rules.proofs.Parts.{tail}
 use Rattle.rules.proofs.Headers.{Placed, places-out}
-use Rattle.lines.specs.declared.refusals.Refusal.{Refusal}
+use Rattle.answers.specs.declared.refusals.Refusal.{Refusal}
 use Rattle.headers.specs.declared.Header.{Header}
 use Rattle.headers.specs.declared.HeaderFound.the-variants.{Good, Refused}
 use Rattle.sheet.specs.declared.sections.SectionFound.{SectionFound}
@@ -52,27 +52,27 @@ module _ (ws : List ℕ) where
 
   module _ {h : Header} (good-header : Headed h) where
     -- the kind lines begin after the header and within the words
-    pub middle-after : 6 ≤ h .middle
-    middle-after = subst (λ (g : Header). 6 ≤ g .middle) (sym (good-header .is)) (good-header .placed .after)
+    pub kinds-after : 6 ≤ h .kinds .at
+    kinds-after = subst (λ (g : Header). 6 ≤ g .kinds .at) (sym (good-header .is)) (good-header .placed .after)
 
-    pub middle-within : h .middle ≤ length ws
-    middle-within =
-        subst (λ (g : Header). g .middle ≤ length ws) (sym (good-header .is))
+    pub kinds-within : h .kinds .at ≤ length ws
+    kinds-within =
+        subst (λ (g : Header). g .kinds .at ≤ length ws) (sym (good-header .is))
         (subst (λ (k : ℕ). getD ws 4 0 ≤ k) (good-header .placed .total) (good-header .placed .before))
 
     -- the parts that code lends are the two sections
-    pub relation-part : (s : SectionFound) → s ≡ sectionFound (section (relationLine (h .boards)) (h .lines) (take (h .middle - 6) (drop 6 ws)))
+    pub relation-part : (s : SectionFound) → s ≡ sectionFound (section (relationLine (h .boards)) (h .lines .count) (take (h .kinds .at - 6) (drop 6 ws)))
         → s ≡ sectionFound (relationLines ws)
     unfolding relationLines
     relation-part s e =
-        subst (λ (g : Header). s ≡ sectionFound (section (relationLine (g .boards)) (g .lines) (take (g .middle - 6) (drop 6 ws)))) (good-header .is) e
+        subst (λ (g : Header). s ≡ sectionFound (section (relationLine (g .boards)) (g .lines .count) (take (g .kinds .at - 6) (drop 6 ws)))) (good-header .is) e
 
-    pub kind-part : (s : SectionFound) → s ≡ sectionFound (section (kindLine (h .boards)) (h .kinds) (take (length ws - h .middle) (drop (h .middle) ws)))
+    pub kind-part : (s : SectionFound) → s ≡ sectionFound (section (kindLine (h .boards)) (h .kinds .count) (take (length ws - h .kinds .at) (drop (h .kinds .at) ws)))
         → s ≡ sectionFound (kindLines ws)
     unfolding kindLines
     kind-part s e =
         subst (λ (us : List ℕ). s ≡ sectionFound (section (kindLine (getD ws 0 0)) (getD ws 2 0) us)) (tail (getD ws 4 0) ws)
-        (subst (λ (g : Header). s ≡ sectionFound (section (kindLine (g .boards)) (g .kinds) (take (length ws - g .middle) (drop (g .middle) ws)))) (good-header .is) e)
+        (subst (λ (g : Header). s ≡ sectionFound (section (kindLine (g .boards)) (g .kinds .count) (take (length ws - g .kinds .at) (drop (g .kinds .at) ws)))) (good-header .is) e)
 
     -- the first section that is refused, or neither
     pub description-no-lines : (q : Refusal) → sections.Refused q ≡ sectionFound (relationLines ws) → Refused q ≡ descriptionFound ws

@@ -1,30 +1,31 @@
 // Reads a description from standard input and prints what is listed for it. It only moves bytes: what is printed is decided in the crate `listing`.
 ghost use mathlib.Core.Path.{_≡_};
-ghost use Prim.Native.Nat.{_≤_};
+ghost use Prim.Native.Nat.{_+_, _≤_};
 ghost use lib.ListN.{length};
+ghost use Rattle.listing.specs.Listings.{mostBytes};
 ghost use Rattle.site.specs.Reading.{AtMost};
 use libc::STDERR_FILENO;
 use libc::STDIN_FILENO;
 use libc::STDOUT_FILENO;
 use listing::Page;
 
-// One byte more than the longest description has, so that more bytes than that are noticed.
-const ROOM: usize = listing::MOST_BYTES + 1;
+// The bytes that are read at most: one more than the longest description has, so that a longer input is noticed.
+const INPUT_BYTES: usize = listing::MOST_BYTES + 1;
 
-// So many bytes were read, or a read failed.
+// What reading came to: so many bytes, or a read that failed.
 enum Taken {
     Bytes(usize),
     Failed,
 }
 
 // Room for the input.
-fn room() -> [u8; ROOM]
-    ensures { λ r. ⌜ length r ≡ 4973 ⌝ }
+fn input_room() -> [u8; INPUT_BYTES]
+    ensures { λ r. ⌜ length r ≡ mostBytes + 1 ⌝ }
 {
-    [0; ROOM]
+    [0; INPUT_BYTES]
 }
 
-// Reads once.
+// Reads once, at most as many bytes as there is room for.
 fn take(bytes: &mut [u8]) -> Taken
     ensures { λ r. ⌜ AtMost (length (now (bytes .entry))) r ⌝ }
 {
@@ -56,7 +57,7 @@ fn take_all(bytes: &mut [u8]) -> Taken
 fn page() -> Page
     ensures { λ r. ⌜ r .used ≤ length (r .text) ⌝ }
 {
-    let mut bytes = room();
+    let mut bytes = input_room();
     match take_all(&mut bytes) {
         Taken::Bytes(n) => listing::listing(&bytes[..n]),
         Taken::Failed => listing::unread(),

@@ -1,16 +1,16 @@
-// The rules that look at boards alone and whose bounds depend on the table: each pair of boards from both sides, each three boards.
+// Rules 2 and 3, which look at boards alone: each two boards from both sides, and each three boards.
 ghost use Rattle.rules.specs.Closing.{rules2, rules3};
 ghost use Rattle.passes.specs.Passes.{Ready, Pass, Quiet};
 ghost use Rattle.sweeps.specs.Sweeps.{sweeping};
 
-// How many relations a sweep struck, or that it came to an empty cell and was left there.
+// What a closing has come to: so many relations are struck, or a cell is empty and the work was left there.
 pub enum Swept {
     Struck(u32),
     Emptied,
 }
 
-// Each pair of boards is the same seen from both sides.
-pub fn turn(v: usize, cells: &mut [u8]) -> u32
+// Rule 2: the relation of two boards is the same seen from both sides.
+pub fn rules2(v: usize, cells: &mut [u8]) -> u32
     requires { ⌜ Ready v (now cells) ⌝ }
     ensures { λ n. ⌜ Pass (Quiet v) v (rules2 v) (now (cells .entry)) 0 (now (cells .exit)) n ⌝ }
 {
@@ -25,8 +25,8 @@ pub fn turn(v: usize, cells: &mut [u8]) -> u32
     struck
 }
 
-// Each three boards: the first to the third is what the second allows. It is left at once when a cell is empty.
-pub fn sweep(v: usize, cells: &mut [u8]) -> Swept
+// Rule 3: the first of three boards to the third is what the second allows. The sweep is left at once when a cell is empty.
+pub fn rules3(v: usize, cells: &mut [u8]) -> Swept
     requires { ⌜ Ready v (now cells) ⌝ }
     ensures { λ r. ⌜ sweeping v (rules3 v) (now (cells .entry)) (now (cells .exit)) r ⌝ }
 {

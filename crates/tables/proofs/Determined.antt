@@ -1,17 +1,23 @@
--- `fresh` takes whatever it is lent, and any two answers and tables that a contract of this crate permits are equal. Assumes nothing.
-use mathlib.Core.Path.{sym, _∙_}
-use Rattle.contracts.specs.Contracts.{AsksNothing, OneOutcome}
-use Rattle.answers.proofs.Outcomes.{outcome-determined}
-use Rattle.tables.proofs.fresh.Kinds as fresh-kinds
-use Rattle.tables.proofs.fresh.Reads as fresh
+-- Any two answers and tables that a contract of this crate permits are equal. Assumes nothing.
+use mathlib.Core.Path.{refl, sym, _∙_}
+use Rattle.contracts.specs.Contracts.{OneResult, OneOutcome}
+use Rattle.tables.proofs.copy.Kinds as copy-kinds
+use Rattle.tables.proofs.copy.Reads as copy
+use Rattle.tables.proofs.fill.Kinds as fill-kinds
+use Rattle.tables.proofs.fill.Reads as fill
+use Rattle.tables.proofs.well_formed.Kinds as well-formed-kinds
+use Rattle.tables.proofs.well_formed.Reads as well-formed
 use Rattle.tables.proofs.narrow.Kinds as narrow-kinds
 use Rattle.tables.proofs.narrow.Reads as narrow
 
-pub fresh-asks-nothing : AsksNothing 1 fresh-kinds.ps fresh.Asked
-fresh-asks-nothing κs a = tt
+pub copy-determined : OneOutcome 2 copy-kinds.ps copy-kinds.r copy.Asked copy.Learnt (λ κs e. e .1 .0 .now)
+copy-determined κs a asked x y d e p q = (refl, p ∙ sym q)
 
-pub fresh-determined : OneOutcome 1 fresh-kinds.ps fresh-kinds.r fresh.Asked fresh.Learnt (λ κs e. e .1 .0 .now)
-fresh-determined κs a asked x y d e p q = outcome-determined x y (d .1 .0 .now) (e .1 .0 .now) (p ∙ sym q)
+pub fill-determined : OneOutcome 1 fill-kinds.ps fill-kinds.r fill.Asked fill.Learnt (λ κs e. e .0 .now)
+fill-determined κs a asked x y d e p q = (refl, p ∙ sym q)
+
+pub well-formed-determined : OneResult 1 well-formed-kinds.ps well-formed-kinds.r well-formed.Asked well-formed.Learnt
+well-formed-determined κs a asked x y d e p q = p ∙ sym q
 
 pub narrow-determined : OneOutcome 1 narrow-kinds.ps narrow-kinds.r narrow.Asked narrow.Learnt (λ κs e. e .0 .now)
 narrow-determined κs a asked x y d e p q = (p .struck ∙ sym (q .struck), p .cells ∙ sym (q .cells))

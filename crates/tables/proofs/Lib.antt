@@ -1,4 +1,4 @@
 -- The laws behind the functions of this crate.
 pub mod Narrowings
-pub mod Freshness
+pub mod Shapes
 pub mod Determined

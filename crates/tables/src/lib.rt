@@ -1,20 +1,25 @@
 // Tables of sets, a byte for each pair of boards.
 ghost use mathlib.Core.Path.{_≡_};
-ghost use Prim.Native.Nat.{_<_};
+ghost use Prim.Native.Nat.{_≤_, _<_};
 ghost use lib.ListN.{length, getD, replicate};
-ghost use Rattle.rules.specs.Relations.{setLimit};
-ghost use Rattle.rules.specs.Calls.{fresh};
+ghost use lib.Dec.{ltb};
+ghost use Rattle.rules.specs.Relations.{eachOf, setLimit};
+ghost use Rattle.rules.specs.Descriptions.{mostBoards};
+ghost use Rattle.rules.specs.Calls.{wellFormed};
 ghost use Rattle.passes.specs.Passes.{Narrowed};
-ghost use Rattle.answers.specs.Answers.{outcome};
-use answers::Answer;
-use headers::MOST_BOARDS;
-use lines::refusals::OUT_OF_RANGE;
 
-// The refusal of a table: it has a wrong number of cells, or a cell that is no set.
-pub const NO_TABLE: u8 = 6;
+// Copies the cells of one table to another with as many.
+pub fn copy(from: &[u8], to: &mut [u8])
+    requires { ⌜ length (now to) ≡ length (now from) ⌝ }
+    ensures { λ _. ⌜ now (to .exit) ≡ now (from .entry) ⌝ }
+{
+    for i in 0..from.len() {
+        to[i] = from[i];
+    }
+}
 
 // Sets every cell to one set.
-fn fill(table: &mut [u8], set: u8)
+pub fn fill(table: &mut [u8], set: u8)
     ensures { λ _. ⌜ now (table .exit) ≡ replicate (length (now (table .entry))) set ⌝ }
 {
     let mut i = 0;
@@ -22,6 +27,29 @@ fn fill(table: &mut [u8], set: u8)
         table[i] = set;
         i += 1;
     }
+}
+
+// Tells whether each cell is a set.
+fn sets_only(table: &[u8]) -> bool
+    ensures { λ b. ⌜ b ≡ eachOf (λ x. ltb x setLimit) (now (table .entry)) ⌝ }
+{
+    for i in 0..table.len() {
+        if relations::FULL < table[i] {
+            return false;
+        }
+    }
+    true
+}
+
+// Tells whether the table has a cell for each two of v boards, and each cell is a set.
+pub fn well_formed(v: usize, table: &[u8]) -> bool
+    requires { ⌜ v ≤ mostBoards ⌝ }
+    ensures { λ b. ⌜ b ≡ wellFormed v (now (table .entry)) ⌝ }
+{
+    if table.len() != v * v {
+        return false;
+    }
+    sets_only(table)
 }
 
 // Narrows one cell to what the bound has too, and says how many relations that struck.
@@ -36,28 +64,4 @@ pub fn narrow(cells: &mut [u8], k: usize, bound: u8) -> u32
     }
     cells[k] = is;
     relations::size(was) - relations::size(is)
-}
-
-// Makes the lent table one of v boards of which nothing is known yet: each cell holds all relations. Refuses a number of boards out of range with 1,
-// then a wrong number of cells with 6, and then leaves the table as it came.
-pub fn fresh(v: usize, table: &mut [u8]) -> Answer
-    ensures { λ a. ⌜ outcome a (now (table .exit)) ≡ fresh v (now (table .entry)) ⌝ }
-{
-    if v < 1 || MOST_BOARDS < v {
-        return Answer {
-            number: OUT_OF_RANGE,
-            count: 0,
-        };
-    }
-    if table.len() != v * v {
-        return Answer {
-            number: NO_TABLE,
-            count: 0,
-        };
-    }
-    fill(table, relations::FULL);
-    Answer {
-        number: 0,
-        count: 0,
-    }
 }

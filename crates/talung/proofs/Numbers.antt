@@ -5,30 +5,41 @@ use mathlib.Core.List.{List}
 use Prim.Native.Nat.{ℕ, _*_, _≤_}
 use native.Mathlib.Omega.{arith}
 use lib.Dec.{leb, eqb}
-use lib.ListN.{length, replicate}
-use Rattle.rules.specs.Relations.{full}
-use Rattle.rules.specs.Descriptions.{Sheet, Reading, good, refused, read, mostBoards}
-use Rattle.rules.specs.Tables.{emptied}
+use lib.ListN.{length}
+use Rattle.rules.specs.Descriptions.{Sheet, Reading, good, refused, need, next, read, mostBoards}
+use Rattle.rules.specs.Tables.{filled, emptied}
 use Rattle.rules.specs.Closed.{strikes}
 use Rattle.rules.specs.Closing.{closing}
 use Rattle.rules.specs.Search.{found, none, Capped, ended, ranOut, search, cap}
-use Rattle.rules.specs.Calls.{Outcome, refuse, succeed, wellFormed, given, reading, fresh, close, answer, searching, arranged, check}
+use Rattle.rules.specs.Calls.{Outcome, refuse, succeed, wellFormed, admitted, given, reading, fresh, close, answer, searching, arranged, check}
+use Rattle.rules.proofs.Tests.{clash}
 use Rattle.rules.proofs.Descriptions.{read-numbered}
 
-abbrev Numbered : Outcome → Type 0
+abbrev Numbered : Outcome (List ℕ) → Type 0
 Numbered o = o .number ≤ 10
 
-either : (b : Bool) (x y : Outcome) → Numbered x → Numbered y → Numbered (elim b [ true ↦ x | false ↦ y ])
+either : (b : Bool) (x y : Outcome (List ℕ)) → Numbered x → Numbered y → Numbered (elim b [ true ↦ x | false ↦ y ])
 either true x y h k = h
 either false x y h k = k
 
-given-numbered : (ws t : List ℕ) (f : Sheet → Outcome) → ((s : Sheet) → Numbered (f s)) → Numbered (given ws t f)
-given-numbered ws t f h = by (read ws) refl
+admitted-numbered : (ws t : List ℕ) (n : ℕ) → admitted ws t ≡ refused n → n ≤ 10
+unfolding admitted
+admitted-numbered ws t n p = by (read ws) refl p
   where
-    by : (r : Reading Sheet) → read ws ≡ r
-        → Numbered (elim r [ good s ↦ elim (wellFormed (s .boards) t) [ true ↦ f s | false ↦ refuse 6 0 t ] | refused n ↦ refuse n 0 t ])
-    by (good s) e = either (wellFormed (s .boards) t) (f s) (refuse 6 0 t) (h s) (omega arith)
-    by (refused n) e = omega (arith, read-numbered ws n e)
+    by : (r : Reading Sheet) → read ws ≡ r → next r (λ s. need 6 (wellFormed (s .boards) t) (good s)) ≡ refused n → n ≤ 10
+    by (good s) e p = formed (wellFormed (s .boards) t) p
+      where
+        formed : (b : Bool) → need 6 b (good s) ≡ refused n → n ≤ 10
+        formed true q = clash (cc)
+        formed false q = let f : 6 ≡ n = cc in omega arith
+    by (refused m) e p = let f : m ≡ n = cc in omega (arith, read-numbered ws m e)
+
+given-numbered : (ws t : List ℕ) (f : Sheet → Outcome (List ℕ)) → ((s : Sheet) → Numbered (f s)) → Numbered (given (admitted ws t) t f)
+given-numbered ws t f h = by (admitted ws t) refl
+  where
+    by : (r : Reading Sheet) → admitted ws t ≡ r → Numbered (given r t f)
+    by (good s) e = h s
+    by (refused n) e = admitted-numbered ws t n e
 
 pub reading-numbered : (ws : List ℕ) → reading ws ≤ 10
 unfolding reading
@@ -41,8 +52,8 @@ reading-numbered ws = by (read ws) refl
 pub fresh-numbered : (v : ℕ) (t : List ℕ) → Numbered (fresh v t)
 unfolding fresh
 fresh-numbered v t =
-    either (leb 1 v && leb v mostBoards) (elim (eqb (length t) (v * v)) [ true ↦ succeed 0 (replicate (v * v) full) | false ↦ refuse 6 0 t ]) (refuse 1 0 t)
-    (either (eqb (length t) (v * v)) (succeed 0 (replicate (v * v) full)) (refuse 6 0 t) (omega arith) (omega arith)) (omega arith)
+    either (leb 1 v && leb v mostBoards) (elim (eqb (length t) (v * v)) [ true ↦ succeed 0 (filled v) | false ↦ refuse 6 0 t ]) (refuse 1 0 t)
+    (either (eqb (length t) (v * v)) (succeed 0 (filled v)) (refuse 6 0 t) (omega arith) (omega arith)) (omega arith)
 
 pub close-numbered : (ws t : List ℕ) → Numbered (close ws t)
 unfolding close

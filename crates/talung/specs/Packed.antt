@@ -1,6 +1,5 @@
--- An outcome as C has it: one number, and the lent table afterwards. Assumes nothing.
+-- An outcome as C has it: one number, and what is lent as it is afterwards. Assumes nothing.
 use mathlib.Core.Path.{_≡_}
-use mathlib.Core.List.{List}
 use Prim.Native.Nat.{ℕ, _+_, _*_, _/_, _%_, _^_}
 use Rattle.rules.specs.Calls.{Outcome}
 use Rattle.answers.specs.declared.Answer.{Answer}
@@ -17,6 +16,6 @@ packed number count = number + countUnit * count
 abbrev pub unpack : ℕ → Answer
 unpack n = record { number = n % countUnit; count = n / countUnit }
 
-pub record Packed (n : ℕ) (w : List ℕ) (o : Outcome) : Type 0 where
+pub record Packed {L : Type 0} (n : ℕ) (l : L) (o : Outcome L) : Type 0 where
   pub answer : n ≡ packed (o .number) (o .count)
-  pub table : w ≡ o .table
+  pub lent : l ≡ o .lent

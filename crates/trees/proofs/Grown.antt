@@ -23,7 +23,7 @@ use Rattle.trees.specs.Trees.{Place, child, Above, Beside, Stands, Place
 use Rattle.trees.proofs.Places.{at-cases, above-at, child-not-root}
 use Rattle.trees.proofs.Spread.{places-out, Covered, spread}
 use Rattle.trees.proofs.Paths.{PathOf, under, Numbered, place, place-path, path-board, path-not-root, path-above, path-parent, parent-same, same-path, path-same, over-path, path-over}
-use Rattle.trees.proofs.Numbers.{boards-forest, over-same, same-over, above-strictly, chiefs-numbered, Fed, number, number-fed, way-parent, parent-feeds, numbers-numbered}
+use Rattle.trees.proofs.Children.{boards-forest, over-same, same-over, above-strictly, chiefs-numbered, Fed, number, number-fed, way-parent, parent-feeds, numbers-numbered}
 
 -- ---- the tree
 

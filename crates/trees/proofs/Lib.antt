@@ -4,7 +4,7 @@ pub mod Rising
 pub mod Spread
 pub mod Drawn
 pub mod Paths
-pub mod Numbers
+pub mod Children
 pub mod Grown
 pub mod Radial
 pub mod Shown

@@ -3,12 +3,7 @@ ghost use mathlib.Core.Path.{_≡_};
 ghost use Prim.Native.Nat.{_*_};
 ghost use lib.ListN.{length};
 ghost use Rattle.words.specs.Words.{words};
-
-fn wide(x: u8) -> u16
-    ensures { λ r. ⌜ r ≡ x ⌝ }
-{
-    x as u16
-}
+use answers::widths::byte_word;
 
 // Takes each two bytes as a word.
 pub fn take_words(bytes: &[u8], into: &mut [u16])
@@ -16,8 +11,8 @@ pub fn take_words(bytes: &[u8], into: &mut [u16])
     ensures { λ _. ⌜ now (into .exit) ≡ words (now (bytes .entry)) ⌝ }
 {
     for i in 0..into.len() {
-        let low = wide(bytes[2 * i]);
-        let high = wide(bytes[2 * i + 1]);
+        let low = byte_word(bytes[2 * i]);
+        let high = byte_word(bytes[2 * i + 1]);
         into[i] = low + 256 * high;
     }
 }

@@ -12,46 +12,46 @@ returns c =
     let start = c .before .before in
     header-unnumbered (start .args .words .now) (λ n. omega arith)
 
-shared-slice-read-wide : tie.Need-shared-slice-read-wide
-shared-slice-read-wide c = search needs
+shared-slice-read-word-number : tie.Need-shared-slice-read-word-number
+shared-slice-read-word-number c = search needs
 
-wide-requires : tie.Need-wide-requires
-wide-requires c κs = search needs
+word-number-requires : tie.Need-word-number-requires
+word-number-requires c κs = search needs
 
-shared-slice-read-wide-2 : tie.Need-shared-slice-read-wide-2
-shared-slice-read-wide-2 c = search needs
+shared-slice-read-word-number-2 : tie.Need-shared-slice-read-word-number-2
+shared-slice-read-word-number-2 c = search needs
 
-wide-requires-2 : tie.Need-wide-requires-2
-wide-requires-2 c κs = search needs
+word-number-requires-2 : tie.Need-word-number-requires-2
+word-number-requires-2 c κs = search needs
 
-shared-slice-read-wide-3 : tie.Need-shared-slice-read-wide-3
-shared-slice-read-wide-3 c = search needs
+shared-slice-read-word-number-3 : tie.Need-shared-slice-read-word-number-3
+shared-slice-read-word-number-3 c = search needs
 
-wide-requires-3 : tie.Need-wide-requires-3
-wide-requires-3 c κs = search needs
+word-number-requires-3 : tie.Need-word-number-requires-3
+word-number-requires-3 c κs = search needs
 
 returns-2 : tie.Need-returns-2
 returns-2 c =
     let start = c .before .before .before .before .before .before .before .before .before in
     header-unnumbered (start .args .words .now) (λ n. ⊎-elim (λ w. omega tested) (⊎-elim (λ w. omega tested) (⊎-elim (λ w. omega tested) (λ w. omega tested))) (c .if2 .came))
 
-shared-slice-read-wide-4 : tie.Need-shared-slice-read-wide-4
-shared-slice-read-wide-4 c = search needs
+shared-slice-read-word-number-4 : tie.Need-shared-slice-read-word-number-4
+shared-slice-read-word-number-4 c = search needs
 
-wide-requires-4 : tie.Need-wide-requires-4
-wide-requires-4 c κs = search needs
+word-number-requires-4 : tie.Need-word-number-requires-4
+word-number-requires-4 c κs = search needs
 
-shared-slice-read-wide-5 : tie.Need-shared-slice-read-wide-5
-shared-slice-read-wide-5 c = search needs
+shared-slice-read-word-number-5 : tie.Need-shared-slice-read-word-number-5
+shared-slice-read-word-number-5 c = search needs
 
-wide-requires-5 : tie.Need-wide-requires-5
-wide-requires-5 c κs = search needs
+word-number-requires-5 : tie.Need-word-number-requires-5
+word-number-requires-5 c κs = search needs
 
-shared-slice-read-wide-6 : tie.Need-shared-slice-read-wide-6
-shared-slice-read-wide-6 c = search needs
+shared-slice-read-word-number-6 : tie.Need-shared-slice-read-word-number-6
+shared-slice-read-word-number-6 c = search needs
 
-wide-requires-6 : tie.Need-wide-requires-6
-wide-requires-6 c κs = search needs
+word-number-requires-6 : tie.Need-word-number-requires-6
+word-number-requires-6 c κs = search needs
 
 returns-3 : tie.Need-returns-3
 returns-3 c =
@@ -66,8 +66,8 @@ returns-4 c =
     let boards = c .before .before .before .before .before .before .before .before .before .before .before .before .before .before .before .before .before .before in
     let lines = c .before .before .before .before .before .before .before .before .before .before .before .before .before .before .before .before in
     let kinds = c .before .before .before .before .before .before .before .before .before .before .before .before .before .before in
-    let middle = c .before .before .before .before .before .before in
-    rw (boards .wide .ensures, lines .wide2 .ensures, kinds .wide3 .ensures, middle .wide5 .ensures)
+    let kinds-at = c .before .before .before .before .before .before in
+    rw (boards .word-number .ensures, lines .word-number2 .ensures, kinds .word-number3 .ensures, kinds-at .word-number5 .ensures)
     (header-read (start .args .words .now)
     (record { six = omega tested; some = omega tested; boards = omega tested; lines = omega tested; kinds = omega tested })
     (record { first = omega tested; after = omega tested; before = omega tested; total = omega tested }))
@@ -77,18 +77,18 @@ read-header-spec =
     tie.close
     (tie.spec
     returns
-    shared-slice-read-wide
-    wide-requires
-    shared-slice-read-wide-2
-    wide-requires-2
-    shared-slice-read-wide-3
-    wide-requires-3
+    shared-slice-read-word-number
+    word-number-requires
+    shared-slice-read-word-number-2
+    word-number-requires-2
+    shared-slice-read-word-number-3
+    word-number-requires-3
     returns-2
-    shared-slice-read-wide-4
-    wide-requires-4
-    shared-slice-read-wide-5
-    wide-requires-5
-    shared-slice-read-wide-6
-    wide-requires-6
+    shared-slice-read-word-number-4
+    word-number-requires-4
+    shared-slice-read-word-number-5
+    word-number-requires-5
+    shared-slice-read-word-number-6
+    word-number-requires-6
     returns-3
     returns-4)

@@ -17,14 +17,14 @@ abbrev μ-loop : tie.MeasureT-loop
 loop-holds : tie.Need-loop-holds Inv-loop μ-loop
 loop-holds c = (omega arith, λ k h. let z : ⊥ = omega arith in absurd z)
 
-mul-wide : tie.Need-mul-wide Inv-loop μ-loop
-mul-wide c = search needs
+mul-word-number : tie.Need-mul-word-number Inv-loop μ-loop
+mul-word-number c = search needs
 
-shared-slice-read-wide : tie.Need-shared-slice-read-wide Inv-loop μ-loop
-shared-slice-read-wide c = omega arith
+shared-slice-read-word-number : tie.Need-shared-slice-read-word-number Inv-loop μ-loop
+shared-slice-read-word-number c = omega arith
 
-wide-requires : tie.Need-wide-requires Inv-loop μ-loop
-wide-requires c κs = search needs
+word-number-requires : tie.Need-word-number-requires Inv-loop μ-loop
+word-number-requires c κs = search needs
 
 returns : tie.Need-returns Inv-loop μ-loop
 returns c =
@@ -52,9 +52,9 @@ boards-only-spec =
     Inv-loop
     μ-loop
     loop-holds
-    mul-wide
-    shared-slice-read-wide
-    wide-requires
+    mul-word-number
+    shared-slice-read-word-number
+    word-number-requires
     returns
     add-i
     loop-less

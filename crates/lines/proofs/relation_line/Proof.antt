@@ -25,11 +25,11 @@ returns c =
     let start = c .before .before in
     sym (ap relationFound (relation-short (start .args .v) (start .args .words .now) (c .if1 .taken)))
 
-shared-slice-read-wide : tie.Need-shared-slice-read-wide
-shared-slice-read-wide c = search needs
+shared-slice-read-word-number : tie.Need-shared-slice-read-word-number
+shared-slice-read-word-number c = search needs
 
-wide-requires : tie.Need-wide-requires
-wide-requires c κs = search needs
+word-number-requires : tie.Need-word-number-requires
+word-number-requires c κs = search needs
 
 sub-if4 : tie.Need-sub-if4
 sub-if4 c = search needs
@@ -40,17 +40,17 @@ returns-2 c =
     sym (ap relationFound (relation-misfits (start .args .v) (start .args .words .now) (omega tested)
     (λ low high room. ⊎-elim (λ w. omega tested) (⊎-elim (λ w. omega tested) (λ w. omega tested)) (c .if2 .came))))
 
-shared-slice-read-wide-2 : tie.Need-shared-slice-read-wide-2
-shared-slice-read-wide-2 c = search needs
+shared-slice-read-word-number-2 : tie.Need-shared-slice-read-word-number-2
+shared-slice-read-word-number-2 c = search needs
 
-wide-requires-2 : tie.Need-wide-requires-2
-wide-requires-2 c κs = search needs
+word-number-requires-2 : tie.Need-word-number-requires-2
+word-number-requires-2 c κs = search needs
 
-shared-slice-read-wide-3 : tie.Need-shared-slice-read-wide-3
-shared-slice-read-wide-3 c = search needs
+shared-slice-read-word-number-3 : tie.Need-shared-slice-read-word-number-3
+shared-slice-read-word-number-3 c = search needs
 
-wide-requires-3 : tie.Need-wide-requires-3
-wide-requires-3 c κs = search needs
+word-number-requires-3 : tie.Need-word-number-requires-3
+word-number-requires-3 c κs = search needs
 
 returns-3 : tie.Need-returns-3
 returns-3 c =
@@ -74,7 +74,7 @@ part-evaluate-end c = omega tested
 evaluate-requires : tie.Need-evaluate-requires
 evaluate-requires c κs =
     let start = c .before .before .before .before .before .before .before .before .before .before .before .before .before .before in
-    omega (tested, part-length (c .before .before .before .before .before .before .before .before .before .before .wide .result) (start .args .words .now) (omega tested))
+    omega (tested, part-length (c .before .before .before .before .before .before .before .before .before .before .word-number .result) (start .args .words .now) (omega tested))
 
 enum-known-x : tie.Need-enum-known-x
 enum-known-x c = search needs
@@ -87,7 +87,7 @@ returns-4 c =
     let start = c .before .before .before .before .before .before .before .before .before .before .before .before .before .before .before .before .before in
     let width = c .before .before .before .before .before .before .before .before .before .before .before .before .before in
     let known = passed (c .before .before .before .before) in
-    sym (ap relationFound (relation-malformed (start .args .v) (start .args .words .now) known (width .wide .result) (width .wide .ensures)
+    sym (ap relationFound (relation-malformed (start .args .v) (start .args .words .now) known (width .word-number .result) (width .word-number .ensures)
     (sym (c .enum-told .given .1) ∙ c .before .before .evaluate .ensures)))
 
 returns-5 : tie.Need-returns-5
@@ -96,7 +96,7 @@ returns-5 c =
     let width = c .before .before .before .before .before .before .before .before .before .before .before .before .before .before .before in
     let known = passed (c .before .before .before .before .before .before) in
     let set = c .before .before in
-    sym (ap relationFound (relation-left-over (start .args .v) (start .args .words .now) known (width .wide .result) (width .wide .ensures) _ _
+    sym (ap relationFound (relation-left-over (start .args .v) (start .args .words .now) known (width .word-number .result) (width .word-number .ensures) _ _
     (sym (set .x .given .1) ∙ set .before .before .evaluate .ensures) (c .if7 .taken)))
 
 sub-t32 : tie.Need-sub-t32
@@ -110,8 +110,8 @@ returns-6 c =
     let second = c .before .before .before .before .before .before .before .before in
     let first = c .before .before .before .before .before .before .before .before .before .before in
     let set = c .before .before in
-    rw (width .wide .ensures, first .wide2 .ensures, second .wide3 .ensures)
-    (relation-line-found (start .args .v) (start .args .words .now) known (width .wide .result) (width .wide .ensures) _ _
+    rw (width .word-number .ensures, first .word-number2 .ensures, second .word-number3 .ensures)
+    (relation-line-found (start .args .v) (start .args .words .now) known (width .word-number .result) (width .word-number .ensures) _ _
     (sym (set .x .given .1) ∙ set .before .before .evaluate .ensures) (c .if7 .left))
 
 pub relation-line-spec : {M : Type 1} → statement M
@@ -119,14 +119,14 @@ relation-line-spec =
     tie.close
     (tie.spec
     returns
-    shared-slice-read-wide
-    wide-requires
+    shared-slice-read-word-number
+    word-number-requires
     sub-if4
     returns-2
-    shared-slice-read-wide-2
-    wide-requires-2
-    shared-slice-read-wide-3
-    wide-requires-3
+    shared-slice-read-word-number-2
+    word-number-requires-2
+    shared-slice-read-word-number-3
+    word-number-requires-3
     returns-3
     add-end
     sub-evaluate

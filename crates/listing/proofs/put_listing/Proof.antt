@@ -6,6 +6,7 @@ use Prim.Native.Nat.{ℕ, _*_, _%_, _/_, _≤_}
 use native.Mathlib.Omega.{arith}
 use lib.ListN.{length, take, drop, length-append, length-replicate}
 use lib.Seq.{length-take-le, take-at}
+use Rattle.rules.specs.Descriptions.{mostWords}
 use Rattle.rules.proofs.Tests.{tested}
 use Rattle.words.specs.Words.{words}
 use Rattle.listing.specs.Listings.{mostBytes, solved, listing}
@@ -36,26 +37,26 @@ returns c =
     subst (λ (xs : List ℕ). Put (start .args .text .now) 0 xs (put .last .0) (put .result)) (sym told) (put .ensures)
 
 -- where the bytes are taken there are half as many words, for which there is room
-abbrev given : tie.After-room → List ℕ
+abbrev given : tie.After-words-room → List ℕ
 given c = c .before .before .before .before .before .args .bytes .now
 
-even : (c : tie.After-room) → length (given c) % 2 ≡ 0
+even : (c : tie.After-words-room) → length (given c) % 2 ≡ 0
 even c = omega tested
 
-few : (c : tie.After-room) → length (given c) ≤ mostBytes
+few : (c : tie.After-words-room) → length (given c) ≤ mostBytes
 few c = omega tested
 
-in-room : (c : tie.After-room) → length (given c) / 2 ≤ length (c .room .result)
-in-room c = omega (arith, few c, ap length (c .room .ensures) ∙ length-replicate {A = ℕ} 2486 0)
+in-room : (c : tie.After-words-room) → length (given c) / 2 ≤ length (c .words-room .result)
+in-room c = omega (arith, few c, ap length (c .words-room .ensures) ∙ length-replicate {A = ℕ} mostWords 0)
 
-taken : (c : tie.After-room) → length (take (length (given c) / 2) (c .room .result)) ≡ length (given c) / 2
-taken c = length-take-le (length (given c) / 2) (c .room .result) (in-room c)
+taken : (c : tie.After-words-room) → length (take (length (given c) / 2) (c .words-room .result)) ≡ length (given c) / 2
+taken c = length-take-le (length (given c) / 2) (c .words-room .result) (in-room c)
 
-halves : (c : tie.After-room) → length (given c) ≡ 2 * (length (given c) / 2)
+halves : (c : tie.After-words-room) → length (given c) ≡ 2 * (length (given c) / 2)
 halves c = omega (arith, even c)
 
-room-requires : tie.Need-room-requires
-room-requires c κs = search needs
+words-room-requires : tie.Need-words-room-requires
+words-room-requires c κs = search needs
 
 array-borrow-prefix-words : tie.Need-array-borrow-prefix-words
 array-borrow-prefix-words c =
@@ -74,19 +75,19 @@ length-taken : (c : tie.After-take-words) → length (c .take-words .last .1 .0)
 length-taken c = ap length (c .take-words .ensures) ∙ words-length (given (c .before .before)) (length (given (c .before .before)) / 2) (halves (c .before .before))
 
 lent : (c : tie.After-take-words)
-    → take (length (given (c .before .before)) / 2) (c .take-words .last .1 .0 ++ drop (length (given (c .before .before)) / 2) (c .before .before .room .result))
+    → take (length (given (c .before .before)) / 2) (c .take-words .last .1 .0 ++ drop (length (given (c .before .before)) / 2) (c .before .before .words-room .result))
     ≡ words (given (c .before .before))
 lent c =
-    take-at (c .take-words .last .1 .0) (drop (length (given (c .before .before)) / 2) (c .before .before .room .result)) (length (given (c .before .before)) / 2) (length-taken c)
+    take-at (c .take-words .last .1 .0) (drop (length (given (c .before .before)) / 2) (c .before .before .words-room .result)) (length (given (c .before .before)) / 2) (length-taken c)
     ∙ c .take-words .ensures
 
-told : (c : tie.After-room) → listing (given c) ≡ solved (words (given c))
+told : (c : tie.After-words-room) → listing (given c) ≡ solved (words (given c))
 told c = listing-taken (given c) (even c) (few c)
 
 array-share-prefix-words : tie.Need-array-share-prefix-words
 array-share-prefix-words c =
     let done = c .before .before in
-    omega (arith, length-taken done, length-append (done .take-words .last .1 .0) (drop (length (given (done .before .before)) / 2) (done .before .before .room .result)))
+    omega (arith, length-taken done, length-append (done .take-words .last .1 .0) (drop (length (given (done .before .before)) / 2) (done .before .before .words-room .result)))
 
 slice-aggregate-put-words : tie.Need-slice-aggregate-put-words
 slice-aggregate-put-words c =
@@ -118,7 +119,7 @@ put-listing-spec =
     put-text-requires
     same-length
     returns
-    room-requires
+    words-room-requires
     array-borrow-prefix-words
     slice-aggregate-take-words
     take-words-requires

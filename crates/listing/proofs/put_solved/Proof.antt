@@ -4,8 +4,8 @@ use mathlib.Core.List.{List, _++_}
 use Prim.Native.Nat.{ℕ}
 use Rattle.rules.specs.Search.{plainOrder}
 use Rattle.rules.specs.Calls.{searching}
-use Rattle.rules.specs.Cases.{filled}
-use Rattle.listing.specs.Listings.{budget, refusal, heading, pairs, told}
+use Rattle.rules.specs.Tables.{filled}
+use Rattle.listing.specs.Listings.{budget, refusalLine, heading, pairs, told}
 use Rattle.listing.specs.Pages.{HasRoom, Put}
 use Rattle.listing.proofs.Putting.{put-then, fits-first, fits-rest}
 use Rattle.listing.proofs.Solving.{search-told-refused, search-told-found}
@@ -27,7 +27,7 @@ abbrev outcomes : tie.After-struct-known → List ℕ
 outcomes c = told (given c .args .v) (searching plainOrder (given c .args .words .now) (filled (given c .args .v)) budget)
 
 -- what is told of a refusal, and of an arrangement
-refused : (c : tie.Then1) → outcomes (c .before) ≡ refusal (c .before .before .before .before .search .result .number)
+refused : (c : tie.Then1) → outcomes (c .before) ≡ refusalLine (c .before .before .before .before .search .result .number)
 refused c =
     let start = given (c .before) in
     search-told-refused (start .args .words .now) (start .args .table .now) (start .pre .0) (start .pre .1) (start .pre .2)

@@ -1,98 +1,95 @@
 -- `put_words` meets its contract: a description that is refused, or what the search of a full table comes to. Assumes nothing.
-use mathlib.Core.Path.{_≡_, sym, _∙_, subst}
+use mathlib.Core.Path.{_≡_, sym, ap, _∙_, subst}
 use mathlib.Core.List.{List}
 use Prim.Native.Nat.{ℕ, _*_, _≤_}
+use native.Mathlib.Nat.{mul-le-mul}
 use native.Mathlib.Omega.{arith}
-use lib.ListN.{length, take, replicate}
+use lib.ListN.{length, take, length-replicate}
 use lib.Seq.{length-take-le}
-use Rattle.rules.specs.Descriptions.{Sheet}
-use Rattle.rules.proofs.Descriptions.{read-wellFormed}
-use Rattle.passes.specs.Passes.{mostCells}
-use Rattle.tables.proofs.Freshness.{square-small}
-use Rattle.copies.proofs.Copying.{room-cells}
-use Rattle.headers.specs.declared.HeaderFound.the-variants.{Good}
-use Rattle.sheet.specs.Found.{descriptionFound}
-use Rattle.sheet.proofs.Described.{Described, described, undescribed}
+use Rattle.rules.specs.Descriptions.{mostBoards, mostCells}
+use Rattle.rules.proofs.Headers.{InRange}
+use Rattle.listing.specs.Listings.{refusalLine, solved}
 use Rattle.listing.specs.Pages.{HasRoom, Put}
-use Rattle.listing.proofs.Solving.{solved-refused, solved-good}
+use Rattle.listing.proofs.Solving.{good-in-range, solved-refused, solved-searched}
 use borrow.Author.Needs.{needs}
 use Rattle.listing.proofs.put_words.Statement.{statement}
 use Rattle.listing.proofs.put_words.Tie as tie
 
-description-requires : tie.Need-description-requires
-description-requires c κs = search needs
+read-requires : tie.Need-read-requires
+read-requires c κs = search needs
 
-enum-known-h : tie.Need-enum-known-h
-enum-known-h c = search needs
+-- what the call is given, once the description has been read
+abbrev given : tie.After-struct-known → tie.Start
+given c = c .before .before .before .before
 
-enum-known-r : tie.Need-enum-known-r
-enum-known-r c = search needs
+-- what is told of a description that is refused
+refused : (c : tie.Then1) → solved (given (c .before) .args .words .now) ≡ refusalLine (c .before .before .read .result .number)
+refused c = solved-refused (given (c .before) .args .words .now) (c .before .before .read .ensures) (c .if1 .taken)
 
 put-refusal-requires : tie.Need-put-refusal-requires
 put-refusal-requires c κs =
-    let start = c .before .before .before .before .before .before .before in
-    let told = solved-refused (start .args .words .now) _ (undescribed (start .args .words .now) _ (sym (c .before .before .r .given .1) ∙ c .before .before .before .before .description .ensures)) in
-    subst (HasRoom (start .args .text .now) 0) told (start .pre)
+    let start = given (c .before .before) in subst (HasRoom (start .args .text .now) 0) (refused (c .before)) (start .pre)
 
 same-length : tie.Need-same-length
 same-length c = search needs
 
 returns : tie.Need-returns
 returns c =
-    let start = c .before .before .before .before .before .before .before .before .before .before in
-    let told = solved-refused (start .args .words .now) _ (undescribed (start .args .words .now) _ (sym (c .before .before .before .before .before .r .given .1) ∙ c .before .before .before .before .before .before .before .description .ensures)) in
+    let then = c .before .before .before .before in
     let put = c .before .before .put-refusal in
-    subst (λ (xs : List ℕ). Put (start .args .text .now) 0 xs (put .last .0) (put .result)) (sym told) (put .ensures)
+    subst (λ (xs : List ℕ). Put (given (then .before) .args .text .now) 0 xs (put .last .0) (put .result)) (sym (refused then)) (put .ensures)
 
--- what is known of a good description
-abbrev given : tie.After-known-told → List ℕ
-given c = c .before .before .before .before .before .before .args .words .now
+-- a good description has a first word, which is in range
+in-range : (c : tie.Else1) → InRange (given (c .before) .args .words .now)
+in-range c = good-in-range (given (c .before) .args .words .now) (c .before .before .read .ensures) (c .if1 .left)
 
-abbrev boards : tie.After-known-told → ℕ
-boards c = c .before .h .given .0 .0 .boards
+shared-slice-read-word-number : tie.Need-shared-slice-read-word-number
+shared-slice-read-word-number c = omega (arith, in-range (c .before) .six)
 
-header : (c : tie.After-known-told) → Good (c .before .h .given .0 .0) ≡ descriptionFound (given c)
-header c = sym (c .before .h .given .1) ∙ c .before .before .before .description .ensures
+word-number-requires : tie.Need-word-number-requires
+word-number-requires c κs = search needs
 
-sheet : (c : tie.After-known-told) → (s : Sheet) × Described (given c) (c .before .h .given .0 .0) s
-sheet c = described (given c) _ (header c)
+-- the number of boards
+abbrev boards : tie.After-word-number → ℕ
+boards c = c .word-number .result
 
-some : (c : tie.After-known-told) → 1 ≤ boards c
-some c = let d = sheet c in omega (arith, read-wellFormed (given c) (d .0) (d .1 .means) .boards .0, d .1 .boards)
+some : (c : tie.After-word-number) → 1 ≤ boards c
+some c = omega (arith, in-range (c .before .before) .some, c .word-number .ensures)
 
--- as many cells as it asks for are in the room for a table
-few : (c : tie.After-known-told) → boards c * boards c ≤ 16 * 16
-few c = square-small (boards c) (sheet c .1 .few)
+few : (c : tie.After-word-number) → boards c ≤ mostBoards
+few c = omega (arith, in-range (c .before .before) .boards, c .word-number .ensures)
 
-in-room : (c : tie.After-known-told) {r : List ℕ} → r ≡ replicate mostCells 0 → boards c * boards c ≤ length r
-in-room c e = omega (arith, few c, room-cells e)
+-- as many cells as the boards ask for are in the room for a table
+cells : (c : tie.After-word-number) → boards c * boards c ≤ mostCells
+cells c = mul-le-mul (few c) (few c)
 
-taken : (c : tie.After-known-told) {r : List ℕ} → r ≡ replicate mostCells 0 → length (take (boards c * boards c) r) ≡ boards c * boards c
-taken c {r} e = length-take-le (boards c * boards c) r (in-room c e)
+in-room : (c : tie.After-table-room) → boards (c .before) * boards (c .before) ≤ length (c .table-room .result)
+in-room c = omega (arith, cells (c .before), ap length (c .table-room .ensures) ∙ length-replicate {A = ℕ} mostCells 0)
+
+taken : (c : tie.After-table-room)
+    → length (take (boards (c .before) * boards (c .before)) (c .table-room .result)) ≡ boards (c .before) * boards (c .before)
+taken c = length-take-le (boards (c .before) * boards (c .before)) (c .table-room .result) (in-room c)
 
 mul-n : tie.Need-mul-n
-mul-n c =
-    record { fits = omega (arith, few c) }
+mul-n c = record { fits = omega (arith, cells c) }
 
-room-requires : tie.Need-room-requires
-room-requires c κs = search needs
+table-room-requires : tie.Need-table-room-requires
+table-room-requires c κs = search needs
 
 array-borrow-prefix-table : tie.Need-array-borrow-prefix-table
-array-borrow-prefix-table c =
-    in-room (c .before .before) (c .before .room .ensures)
+array-borrow-prefix-table c = in-room (c .before)
 
 slice-aggregate-put-solved : tie.Need-slice-aggregate-put-solved
-slice-aggregate-put-solved c =
-    sym (taken (c .before .before .before) (c .before .before .room .ensures))
+slice-aggregate-put-solved c = sym (taken (c .before .before))
 
 put-solved-requires : tie.Need-put-solved-requires
 put-solved-requires c κs =
-    let good = c .before .before .before in
-    let start = good .before .before .before .before .before .before in (
-      some good,
-      sheet good .1 .few,
-      taken good (c .before .before .room .ensures),
-      subst (HasRoom (start .args .text .now) 0) (solved-good (given good) _ (header good)) (start .pre),
+    let known = c .before .before .before in
+    let start = given (known .before .before .before) in (
+      some known,
+      few known,
+      taken (c .before .before),
+      subst (HasRoom (start .args .text .now) 0) (solved-searched (start .args .words .now) (known .word-number .ensures)) (start .pre),
     )
 
 same-length-2 : tie.Need-same-length-2
@@ -100,23 +97,24 @@ same-length-2 c = search needs
 
 returns-2 : tie.Need-returns-2
 returns-2 c =
-    let good = c .before .before .before .before .before .before .before in
-    let start = c .before .before .before .before .before .before .before .before .before .before .before .before .before in
+    let known = c .before .before .before .before .before .before .before in
+    let start = given (known .before .before .before) in
     let put = c .before .before .before .put-solved in
-    subst (λ (xs : List ℕ). Put (start .args .text .now) 0 xs (put .last .0) (put .result)) (sym (solved-good (given good) _ (header good))) (put .ensures)
+    subst (λ (xs : List ℕ). Put (start .args .text .now) 0 xs (put .last .0) (put .result))
+    (sym (solved-searched (start .args .words .now) (known .word-number .ensures))) (put .ensures)
 
 pub put-words-spec : {M : Type 1} → statement M
 put-words-spec =
     tie.close
     (tie.spec
-    description-requires
-    enum-known-h
-    enum-known-r
+    read-requires
     put-refusal-requires
     same-length
     returns
+    shared-slice-read-word-number
+    word-number-requires
     mul-n
-    room-requires
+    table-room-requires
     array-borrow-prefix-table
     slice-aggregate-put-solved
     put-solved-requires

@@ -5,15 +5,15 @@ use Rattle.rules.specs.Relations.{relations}
 use Rattle.relations.proofs.compose.Statement.{statement}
 use Rattle.relations.proofs.compose.Tie as tie
 
-wide-requires : tie.Need-wide-requires
-wide-requires c κs = search needs
+byte-number-requires : tie.Need-byte-number-requires
+byte-number-requires c κs = search needs
 
 mul-result : tie.Need-mul-result
 unfolding relations
 mul-result c = record { fits = omega arith }
 
-wide-requires-2 : tie.Need-wide-requires-2
-wide-requires-2 c κs = search needs
+byte-number-requires-2 : tie.Need-byte-number-requires-2
+byte-number-requires-2 c κs = search needs
 
 add-result : tie.Need-add-result
 unfolding relations
@@ -27,9 +27,9 @@ returns : tie.Need-returns
 unfolding relations
 returns c =
     let start = c .before .before .before in
-    rw (c .before .before .wide .ensures, c .before .wide2 .ensures) (start .pre .0 .entry (start .args .x) (start .args .y) (start .pre .1) (start .pre .2))
+    rw (c .before .before .byte-number .ensures, c .before .byte-number2 .ensures) (start .pre .0 .entry (start .args .x) (start .args .y) (start .pre .1) (start .pre .2))
 
 pub compose-spec : {M : Type 1} → statement M
 compose-spec =
     tie.close
-    (tie.spec wide-requires mul-result wide-requires-2 add-result element-copy-out-result returns)
+    (tie.spec byte-number-requires mul-result byte-number-requires-2 add-result element-copy-out-result returns)

@@ -6,8 +6,8 @@ use Rattle.rules.proofs.Entries.{value-at}
 use Rattle.relations.proofs.converse.Statement.{statement}
 use Rattle.relations.proofs.converse.Tie as tie
 
-wide-requires : tie.Need-wide-requires
-wide-requires c κs = search needs
+byte-number-requires : tie.Need-byte-number-requires
+byte-number-requires c κs = search needs
 
 array-read-result : tie.Need-array-read-result
 unfolding relations
@@ -15,7 +15,7 @@ array-read-result c = omega arith
 
 returns : tie.Need-returns
 unfolding relations has setTo setOf opposite converse
-returns c = rw (c .wide .ensures) (value-at converse setLimit (c .before .args .x) (c .before .pre))
+returns c = rw (c .byte-number .ensures) (value-at converse setLimit (c .before .args .x) (c .before .pre))
 
 pub converse-spec : {M : Type 1} → statement M
-converse-spec = tie.close (tie.spec wide-requires array-read-result returns)
+converse-spec = tie.close (tie.spec byte-number-requires array-read-result returns)

@@ -3,7 +3,7 @@ use borrow.Author.Needs.{needs}
 use mathlib.Core.Path.{sym, _∙_}
 use Prim.Native.Nat.{_≤_}
 use lib.ListN.{length}
-use Rattle.sheet.proofs.Wholes.{headed, middle-after, middle-within, relation-part, kind-part, description-unheaded, description-no-lines, description-no-kinds, description-read}
+use Rattle.sheet.proofs.Wholes.{headed, kinds-after, kinds-within, relation-part, kind-part, description-unheaded, description-no-lines, description-no-kinds, description-read}
 use Rattle.sheet.proofs.description.Statement.{statement}
 use Rattle.sheet.proofs.description.Tie as tie
 
@@ -21,29 +21,29 @@ returns c =
     let start = c .before .before .before .before .before in
     description-unheaded (start .args .words .now) _ (sym (c .before .r .given .1) ∙ c .before .before .before .read-header .ensures)
 
-sub-relation-lines : tie.Need-sub-relation-lines
-sub-relation-lines c =
+sub-read-section : tie.Need-sub-read-section
+sub-read-section c =
     let start = c .before .before .before .before .before in
     let head = c .before in
     let h = headed (start .args .words .now) _ (sym (head .h .given .1) ∙ head .before .before .read-header .ensures) in
-    middle-after (start .args .words .now) h
+    kinds-after (start .args .words .now) h
 
-part-relation-lines-start : tie.Need-part-relation-lines-start
-part-relation-lines-start c =
+part-read-section-start : tie.Need-part-read-section-start
+part-read-section-start c =
     let start = c .before .before .before .before .before in
     let head = c .before in
     let h = headed (start .args .words .now) _ (sym (head .h .given .1) ∙ head .before .before .read-header .ensures) in
-    middle-after (start .args .words .now) h
+    kinds-after (start .args .words .now) h
 
-part-relation-lines-end : tie.Need-part-relation-lines-end
-part-relation-lines-end c =
+part-read-section-end : tie.Need-part-read-section-end
+part-read-section-end c =
     let start = c .before .before .before .before .before in
     let head = c .before in
     let h = headed (start .args .words .now) _ (sym (head .h .given .1) ∙ head .before .before .read-header .ensures) in
-    middle-within (start .args .words .now) h
+    kinds-within (start .args .words .now) h
 
-relation-lines-requires : tie.Need-relation-lines-requires
-relation-lines-requires c κs = search needs
+read-section-requires : tie.Need-read-section-requires
+read-section-requires c κs = search needs
 
 enum-known-lines : tie.Need-enum-known-lines
 enum-known-lines c = search needs
@@ -53,38 +53,38 @@ returns-2 c =
     let start = c .before .before .before .before .before .before .before .before .before .before in
     let head = c .before .before .before .before .before .before in
     let h = headed (start .args .words .now) _ (sym (head .h .given .1) ∙ head .before .before .read-header .ensures) in
-    description-no-lines (start .args .words .now) h _ (relation-part (start .args .words .now) h _ (sym (c .before .lines .given .1) ∙ c .before .before .before .relation-lines .ensures))
+    description-no-lines (start .args .words .now) h _ (relation-part (start .args .words .now) h _ (sym (c .before .lines .given .1) ∙ c .before .before .before .read-section .ensures))
 
 enum-told : tie.Need-enum-told
 enum-told c = search needs
 
-mul-kind-lines : tie.Need-mul-kind-lines
-mul-kind-lines c =
+mul-read-section : tie.Need-mul-read-section
+mul-read-section c =
     let start = c .before .before .before .before .before .before .before .before .before in
     let head = c .before .before .before .before .before in
     let h = headed (start .args .words .now) _ (sym (head .h .given .1) ∙ head .before .before .read-header .ensures) in
-    let l : head .h .given .0 .0 .middle ≤ length (start .args .words .now) = middle-within (start .args .words .now) h in
+    let l : head .h .given .0 .0 .kinds .at ≤ length (start .args .words .now) = kinds-within (start .args .words .now) h in
     search needs
 
-sub-kind-lines : tie.Need-sub-kind-lines
-sub-kind-lines c =
+sub-read-section-2 : tie.Need-sub-read-section-2
+sub-read-section-2 c =
     let start = c .before .before .before .before .before .before .before .before .before in
     let head = c .before .before .before .before .before in
     let h = headed (start .args .words .now) _ (sym (head .h .given .1) ∙ head .before .before .read-header .ensures) in
-    middle-within (start .args .words .now) h
+    kinds-within (start .args .words .now) h
 
-part-kind-lines-start : tie.Need-part-kind-lines-start
-part-kind-lines-start c =
+part-read-section-start-2 : tie.Need-part-read-section-start-2
+part-read-section-start-2 c =
     let start = c .before .before .before .before .before .before .before .before .before in
     let head = c .before .before .before .before .before in
     let h = headed (start .args .words .now) _ (sym (head .h .given .1) ∙ head .before .before .read-header .ensures) in
-    middle-within (start .args .words .now) h
+    kinds-within (start .args .words .now) h
 
-part-kind-lines-end : tie.Need-part-kind-lines-end
-part-kind-lines-end c = search needs
+part-read-section-end-2 : tie.Need-part-read-section-end-2
+part-read-section-end-2 c = search needs
 
-kind-lines-requires : tie.Need-kind-lines-requires
-kind-lines-requires c κs = search needs
+read-section-requires-2 : tie.Need-read-section-requires-2
+read-section-requires-2 c κs = search needs
 
 enum-known-kinds : tie.Need-enum-known-kinds
 enum-known-kinds c = search needs
@@ -96,8 +96,8 @@ returns-3 c =
     let h = headed (start .args .words .now) _ (sym (head .h .given .1) ∙ head .before .before .read-header .ensures) in
     let lines = c .before .before .before .before .before in
     description-no-kinds (start .args .words .now) h
-    (relation-part (start .args .words .now) h _ (sym (lines .enum-told .given .1) ∙ lines .before .before .relation-lines .ensures)) _
-    (kind-part (start .args .words .now) h _ (sym (c .before .kinds .given .1) ∙ c .before .before .before .kind-lines .ensures))
+    (relation-part (start .args .words .now) h _ (sym (lines .enum-told .given .1) ∙ lines .before .before .read-section .ensures)) _
+    (kind-part (start .args .words .now) h _ (sym (c .before .kinds .given .1) ∙ c .before .before .before .read-section2 .ensures))
 
 enum-told-2 : tie.Need-enum-told-2
 enum-told-2 c = search needs
@@ -109,8 +109,8 @@ returns-4 c =
     let h = headed (start .args .words .now) _ (sym (head .h .given .1) ∙ head .before .before .read-header .ensures) in
     let lines = c .before .before .before .before in
     description-read (start .args .words .now) h
-    (relation-part (start .args .words .now) h _ (sym (lines .enum-told .given .1) ∙ lines .before .before .relation-lines .ensures))
-    (kind-part (start .args .words .now) h _ (sym (c .enum-told2 .given .1) ∙ c .before .before .kind-lines .ensures))
+    (relation-part (start .args .words .now) h _ (sym (lines .enum-told .given .1) ∙ lines .before .before .read-section .ensures))
+    (kind-part (start .args .words .now) h _ (sym (c .enum-told2 .given .1) ∙ c .before .before .read-section2 .ensures))
 
 pub description-spec : {M : Type 1} → statement M
 description-spec =
@@ -120,18 +120,18 @@ description-spec =
     enum-known-h
     enum-known-r
     returns
-    sub-relation-lines
-    part-relation-lines-start
-    part-relation-lines-end
-    relation-lines-requires
+    sub-read-section
+    part-read-section-start
+    part-read-section-end
+    read-section-requires
     enum-known-lines
     returns-2
     enum-told
-    mul-kind-lines
-    sub-kind-lines
-    part-kind-lines-start
-    part-kind-lines-end
-    kind-lines-requires
+    mul-read-section
+    sub-read-section-2
+    part-read-section-start-2
+    part-read-section-end-2
+    read-section-requires-2
     enum-known-kinds
     returns-3
     enum-told-2

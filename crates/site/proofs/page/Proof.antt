@@ -9,8 +9,8 @@ use borrow.Author.Needs.{needs}
 use Rattle.site.proofs.page.Statement.{statement}
 use Rattle.site.proofs.page.Tie as tie
 
-room-requires : tie.Need-room-requires
-room-requires c κs = search needs
+input-room-requires : tie.Need-input-room-requires
+input-room-requires c κs = search needs
 
 slice-aggregate-take-all : tie.Need-slice-aggregate-take-all
 slice-aggregate-take-all c = search needs
@@ -56,7 +56,7 @@ pub page-spec : {M : Type 1} → statement M
 page-spec =
     tie.close
     (tie.spec
-    room-requires
+    input-room-requires
     slice-aggregate-take-all
     take-all-requires
     enum-known-n

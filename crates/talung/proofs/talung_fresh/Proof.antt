@@ -7,8 +7,8 @@ use Rattle.talung.proofs.Packing.{packs}
 use Rattle.talung.proofs.talung_fresh.Statement.{statement}
 use Rattle.talung.proofs.talung_fresh.Tie as tie
 
-wide-boards-requires : tie.Need-wide-boards-requires
-wide-boards-requires c κs = search needs
+count-number-requires : tie.Need-count-number-requires
+count-number-requires c κs = search needs
 
 fresh-requires : tie.Need-fresh-requires
 fresh-requires c κs = search needs
@@ -24,7 +24,7 @@ returns c =
     let start = c .before .before .before .before .before .before .before in
     packs _ _ _ _ (c .pack .ensures)
     (c .before .before .before .fresh .ensures
-    ∙ ap (λ (v : ℕ). fresh v (start .args .table .now)) (c .before .before .before .before .before .wide-boards .ensures))
+    ∙ ap (λ (v : ℕ). fresh v (start .args .table .now)) (c .before .before .before .before .before .count-number .ensures))
 
 pub talung-fresh-spec : {M : Type 1} → statement M
-talung-fresh-spec = tie.close (tie.spec wide-boards-requires fresh-requires pack-requires same-length returns)
+talung-fresh-spec = tie.close (tie.spec count-number-requires fresh-requires pack-requires same-length returns)

@@ -19,40 +19,40 @@ loop-holds : tie.Need-loop-holds Inv-loop μ-loop
 loop-holds c =
     let start = c .before .before in laid-none (sym (words-length (start .args .bytes .now) (length (start .args .into .now)) (start .pre)))
 
-mul-wide : tie.Need-mul-wide Inv-loop μ-loop
-mul-wide c =
+mul-byte-word : tie.Need-mul-byte-word Inv-loop μ-loop
+mul-byte-word c =
     record { fits = omega (arith, c .before .before .before .before .pre, c .loop-test .taken) }
 
-shared-slice-read-wide : tie.Need-shared-slice-read-wide Inv-loop μ-loop
-shared-slice-read-wide c =
+shared-slice-read-byte-word : tie.Need-shared-slice-read-byte-word Inv-loop μ-loop
+shared-slice-read-byte-word c =
     omega (arith, c .before .before .before .before .before .pre, c .before .loop-test .taken)
 
-wide-requires : tie.Need-wide-requires Inv-loop μ-loop
-wide-requires c κs =
+byte-word-requires : tie.Need-byte-word-requires Inv-loop μ-loop
+byte-word-requires c κs =
     tt
 
-mul-wide-2 : tie.Need-mul-wide-2 Inv-loop μ-loop
-mul-wide-2 c =
+mul-byte-word-2 : tie.Need-mul-byte-word-2 Inv-loop μ-loop
+mul-byte-word-2 c =
     record { fits = omega (arith, c .before .before .before .before .before .before .pre, c .before .before .loop-test .taken) }
 
-add-wide : tie.Need-add-wide Inv-loop μ-loop
-add-wide c =
+add-byte-word : tie.Need-add-byte-word Inv-loop μ-loop
+add-byte-word c =
     record { fits = omega (arith, c .before .before .before .before .before .before .pre, c .before .before .loop-test .taken) }
 
-shared-slice-read-wide-2 : tie.Need-shared-slice-read-wide-2 Inv-loop μ-loop
-shared-slice-read-wide-2 c =
+shared-slice-read-byte-word-2 : tie.Need-shared-slice-read-byte-word-2 Inv-loop μ-loop
+shared-slice-read-byte-word-2 c =
     omega (arith, c .before .before .before .before .before .before .before .pre, c .before .before .before .loop-test .taken)
 
-wide-requires-2 : tie.Need-wide-requires-2 Inv-loop μ-loop
-wide-requires-2 c κs =
+byte-word-requires-2 : tie.Need-byte-word-requires-2 Inv-loop μ-loop
+byte-word-requires-2 c κs =
     tt
 
 -- the two numbers that were read are bytes
-low-byte : (c : tie.After-wide2 Inv-loop μ-loop) → c .before .before .wide .result < 256
-low-byte c = omega (arith, c .before .before .wide .ensures, c .before .before .before .shared-slice-known2 .given (2 * c .before .before .before .before .before .loop .i))
+low-byte : (c : tie.After-byte-word2 Inv-loop μ-loop) → c .before .before .byte-word .result < 256
+low-byte c = omega (arith, c .before .before .byte-word .ensures, c .before .before .before .shared-slice-known2 .given (2 * c .before .before .before .before .before .loop .i))
 
-high-byte : (c : tie.After-wide2 Inv-loop μ-loop) → c .wide2 .result < 256
-high-byte c = omega (arith, c .wide2 .ensures, c .before .shared-slice-known3 .given (2 * c .before .before .before .before .before .loop .i + 1))
+high-byte : (c : tie.After-byte-word2 Inv-loop μ-loop) → c .byte-word2 .result < 256
+high-byte c = omega (arith, c .byte-word2 .ensures, c .before .shared-slice-known3 .given (2 * c .before .before .before .before .before .loop .i + 1))
 
 mul-into : tie.Need-mul-into Inv-loop μ-loop
 mul-into c = record { fits = omega (arith, low-byte c, high-byte c) }
@@ -83,8 +83,8 @@ loop-again c =
     let start = c .before .before .before .before .before .before .before .before in
     let at : ℕ = c .before .before .before .before .before .loop .i in
     let bytes = start .args .bytes .now in
-    let low : c .before .before .wide .result ≡ getD bytes (2 * at) 0 = c .before .before .wide .ensures in
-    let high : c .wide2 .result ≡ getD bytes (2 * at + 1) 0 = c .wide2 .ensures in
+    let low : c .before .before .byte-word .result ≡ getD bytes (2 * at) 0 = c .before .before .byte-word .ensures in
+    let high : c .byte-word2 .result ≡ getD bytes (2 * at + 1) 0 = c .byte-word2 .ensures in
     let turn : at < length (start .args .into .now) = c .before .before .before .before .loop-test .taken in
     let many : length bytes ≡ 2 * length (start .args .into .now) = start .pre in
     laid-more (c .before .before .before .before .before .loop .inv) (omega (arith, words-length bytes (length (start .args .into .now)) many))
@@ -107,13 +107,13 @@ take-words-spec =
     Inv-loop
     μ-loop
     loop-holds
-    mul-wide
-    shared-slice-read-wide
-    wide-requires
-    mul-wide-2
-    add-wide
-    shared-slice-read-wide-2
-    wide-requires-2
+    mul-byte-word
+    shared-slice-read-byte-word
+    byte-word-requires
+    mul-byte-word-2
+    add-byte-word
+    shared-slice-read-byte-word-2
+    byte-word-requires-2
     mul-into
     add-into
     mul-into-2

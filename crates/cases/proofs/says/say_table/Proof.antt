@@ -33,11 +33,14 @@ write-all-requires-2 c κs = search needs
 loop-holds : tie.Need-loop-holds Inv-loop μ-loop
 loop-holds c = search needs
 
-shared-slice-read-wide : tie.Need-shared-slice-read-wide Inv-loop μ-loop
-shared-slice-read-wide c = search needs
+shared-slice-read-byte-number : tie.Need-shared-slice-read-byte-number Inv-loop μ-loop
+shared-slice-read-byte-number c = search needs
 
-wide-requires : tie.Need-wide-requires Inv-loop μ-loop
-wide-requires c κs = search needs
+byte-number-requires : tie.Need-byte-number-requires Inv-loop μ-loop
+byte-number-requires c κs = search needs
+
+number-long-requires : tie.Need-number-long-requires Inv-loop μ-loop
+number-long-requires c κs = search needs
 
 print-hex-requires : tie.Need-print-hex-requires Inv-loop μ-loop
 print-hex-requires c κs = search needs
@@ -70,8 +73,9 @@ say-table-spec =
     slice-aggregate-write-all-2
     write-all-requires-2
     loop-holds
-    shared-slice-read-wide
-    wide-requires
+    shared-slice-read-byte-number
+    byte-number-requires
+    number-long-requires
     print-hex-requires
     add-i
     loop-less

@@ -5,7 +5,7 @@ use Prim.Native.Nat.{ℕ, _/_, _<_}
 use native.Mathlib.Omega.{arith}
 use Rattle.listing.specs.Listings.{lastDigit, decimal}
 use Rattle.listing.specs.Pages.{HasRoom, Put}
-use Rattle.listing.proofs.Numbers.{decimal-one, decimal-more}
+use Rattle.listing.proofs.Decimals.{decimal-one, decimal-more}
 use Rattle.listing.proofs.Putting.{put-length, put-then, fits-first, fits-rest}
 use borrow.Fn.Kinds.{In}
 use borrow.Fn.PlainCycle.{Measures, is, falls, and}

@@ -19,8 +19,8 @@ later n = triesText ++ last n
 abbrev numbers : ℕ → ℕ → List ℕ
 numbers v n = decimal v ++ later n
 
-widest-requires : tie.Need-widest-requires
-widest-requires c κs = search needs
+count-number-requires : tie.Need-count-number-requires
+count-number-requires c κs = search needs
 
 slice-aggregate-put-text : tie.Need-slice-aggregate-put-text
 slice-aggregate-put-text c = search needs
@@ -30,8 +30,8 @@ unfolding heading
 put-text-requires c κs =
     let start = c .before .before .before .before in
     let v = start .args .v in
-    let n = c .before .before .widest .result in
-    let fits = subst (λ (m : ℕ). HasRoom (start .args .text .now) 0 (heading v m)) (sym (c .before .before .widest .ensures)) (start .pre) in
+    let n = c .before .before .count-number .result in
+    let fits = subst (λ (m : ℕ). HasRoom (start .args .text .now) 0 (heading v m)) (sym (c .before .before .count-number .ensures)) (start .pre) in
     fits-first boardsText (numbers v n) fits
 
 put-number-requires : tie.Need-put-number-requires
@@ -39,8 +39,8 @@ unfolding heading
 put-number-requires c κs =
     let start = c .before .before .before .before .before .before .before .before in
     let v = start .args .v in
-    let n = c .before .before .before .before .before .before .widest .result in
-    let fits = subst (λ (m : ℕ). HasRoom (start .args .text .now) 0 (heading v m)) (sym (c .before .before .before .before .before .before .widest .ensures)) (start .pre) in
+    let n = c .before .before .before .before .before .before .count-number .result in
+    let fits = subst (λ (m : ℕ). HasRoom (start .args .text .now) 0 (heading v m)) (sym (c .before .before .before .before .before .before .count-number .ensures)) (start .pre) in
     fits-first (decimal v) (later n) (fits-rest boardsText (numbers v n) fits (c .before .before .before .put-text .ensures))
 
 slice-aggregate-put-text-2 : tie.Need-slice-aggregate-put-text-2
@@ -51,8 +51,8 @@ unfolding heading
 put-text-requires-2 c κs =
     let start = c .before .before .before .before .before .before .before .before .before .before .before .before .before in
     let v = start .args .v in
-    let n = c .before .before .before .before .before .before .before .before .before .before .before .widest .result in
-    let fits = subst (λ (m : ℕ). HasRoom (start .args .text .now) 0 (heading v m)) (sym (c .before .before .before .before .before .before .before .before .before .before .before .widest .ensures)) (start .pre) in
+    let n = c .before .before .before .before .before .before .before .before .before .before .before .count-number .result in
+    let fits = subst (λ (m : ℕ). HasRoom (start .args .text .now) 0 (heading v m)) (sym (c .before .before .before .before .before .before .before .before .before .before .before .count-number .ensures)) (start .pre) in
     fits-first triesText (last n)
     (fits-rest (decimal v) (later n) (fits-rest boardsText (numbers v n) fits (c .before .before .before .before .before .before .before .before .put-text .ensures)) (c .before .before .before .before .put-number .ensures))
 
@@ -61,8 +61,8 @@ unfolding heading
 put-last-requires c κs =
     let start = c .before .before .before .before .before .before .before .before .before .before .before .before .before .before .before .before .before in
     let v = start .args .v in
-    let n = c .before .before .before .before .before .before .before .before .before .before .before .before .before .before .before .widest .result in
-    let fits = subst (λ (m : ℕ). HasRoom (start .args .text .now) 0 (heading v m)) (sym (c .before .before .before .before .before .before .before .before .before .before .before .before .before .before .before .widest .ensures)) (start .pre) in
+    let n = c .before .before .before .before .before .before .before .before .before .before .before .before .before .before .before .count-number .result in
+    let fits = subst (λ (m : ℕ). HasRoom (start .args .text .now) 0 (heading v m)) (sym (c .before .before .before .before .before .before .before .before .before .before .before .before .before .before .before .count-number .ensures)) (start .pre) in
     fits-rest triesText (last n)
     (fits-rest (decimal v) (later n) (fits-rest boardsText (numbers v n) fits (c .before .before .before .before .before .before .before .before .before .before .before .before .put-text .ensures)) (c .before .before .before .before .before .before .before .before .put-number .ensures))
     (c .before .before .before .put-text2 .ensures)
@@ -75,9 +75,9 @@ unfolding heading
 returns c =
     let start = c .before .before .before .before .before .before .before .before .before .before .before .before .before .before .before .before .before .before .before .before in
     let v = start .args .v in
-    let n = c .before .before .before .before .before .before .before .before .before .before .before .before .before .before .before .before .before .before .widest .result in
+    let n = c .before .before .before .before .before .before .before .before .before .before .before .before .before .before .before .before .before .before .count-number .result in
     let put = c .before .before .put-last in
-    subst (λ (m : ℕ). Put (start .args .text .now) 0 (heading v m) (put .last .0) (put .result)) (c .before .before .before .before .before .before .before .before .before .before .before .before .before .before .before .before .before .before .widest .ensures)
+    subst (λ (m : ℕ). Put (start .args .text .now) 0 (heading v m) (put .last .0) (put .result)) (c .before .before .before .before .before .before .before .before .before .before .before .before .before .before .before .before .before .before .count-number .ensures)
     (put-then boardsText (numbers v n) (c .before .before .before .before .before .before .before .before .before .before .before .before .before .before .before .put-text .ensures)
     (put-then (decimal v) (later n) (c .before .before .before .before .before .before .before .before .before .before .before .put-number .ensures) (put-then triesText (last n) (c .before .before .before .before .before .before .put-text2 .ensures) (put .ensures))))
 
@@ -85,7 +85,7 @@ pub put-heading-spec : {M : Type 1} → statement M
 put-heading-spec =
     tie.close
     (tie.spec
-    widest-requires
+    count-number-requires
     slice-aggregate-put-text
     put-text-requires
     put-number-requires

@@ -1,10 +1,10 @@
 -- `put_pairs_of` meets its contract: the lines of the pairs passed are put. The measure is the boards left. Assumes nothing.
 use mathlib.Core.List.{flatMap}
 use Prim.Native.Nat.{ℕ, suc, _+_, _*_, _-_, _≤_, _<_}
+use native.Mathlib.Nat.{mul-le-mul}
 use native.Mathlib.Omega.{arith}
 use Rattle.rules.specs.Tables.{range}
 use Rattle.rules.proofs.Inside.{in-range}
-use Rattle.tables.proofs.Freshness.{square-small}
 use Rattle.listing.specs.Listings.{pairLine}
 use Rattle.listing.specs.Pages.{Put}
 use Rattle.listing.proofs.Putting.{put-length}
@@ -37,7 +37,7 @@ mul-put-pair c =
     let p : ℕ = start .args .p in
     let q : ℕ = c .before .before .loop .q in
     let inside : v * p + q < v * v = in-range v p q (start .pre .1) (c .before .loop-test .taken) in
-    record { fits = omega (arith, square-small v (start .pre .0)) }
+    record { fits = omega (arith, mul-le-mul (start .pre .0) (start .pre .0)) }
 
 add-put-pair : tie.Need-add-put-pair Inv-loop μ-loop
 add-put-pair c =
@@ -46,7 +46,7 @@ add-put-pair c =
     let p : ℕ = start .args .p in
     let q : ℕ = c .before .before .loop .q in
     let inside : v * p + q < v * v = in-range v p q (start .pre .1) (c .before .loop-test .taken) in
-    record { fits = omega (arith, square-small v (start .pre .0)) }
+    record { fits = omega (arith, mul-le-mul (start .pre .0) (start .pre .0)) }
 
 shared-slice-read-put-pair : tie.Need-shared-slice-read-put-pair Inv-loop μ-loop
 shared-slice-read-put-pair c =

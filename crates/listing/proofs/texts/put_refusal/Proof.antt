@@ -2,7 +2,7 @@
 use mathlib.Core.Path.{_≡_, sym, subst}
 use mathlib.Core.List.{_++_}
 use Prim.Native.Nat.{ℕ}
-use Rattle.listing.specs.Listings.{refusedText, lineFeed, decimal, refusal}
+use Rattle.listing.specs.Listings.{refusedText, lineFeed, decimal, refusalLine}
 use Rattle.listing.specs.Pages.{HasRoom, Put}
 use Rattle.listing.proofs.Putting.{put-then, fits-first, fits-rest}
 use borrow.Author.Needs.{needs}
@@ -13,21 +13,21 @@ slice-aggregate-put-text : tie.Need-slice-aggregate-put-text
 slice-aggregate-put-text c = search needs
 
 put-text-requires : tie.Need-put-text-requires
-unfolding refusal
+unfolding refusalLine
 put-text-requires c κs =
     let start = c .before .before .before in
     let n = start .args .number in
     fits-first refusedText (decimal n ++ lineFeed) (start .pre)
 
-wide-requires : tie.Need-wide-requires
-wide-requires c κs = search needs
+byte-number-requires : tie.Need-byte-number-requires
+byte-number-requires c κs = search needs
 
 put-last-requires : tie.Need-put-last-requires
-unfolding refusal
+unfolding refusalLine
 put-last-requires c κs =
     let start = c .before .before .before .before .before .before .before .before in
     let n = start .args .number in
-    let number : c .wide .result ≡ n = c .wide .ensures in
+    let number : c .byte-number .result ≡ n = c .byte-number .ensures in
     subst (λ (m : ℕ). HasRoom (c .before .before .before .before .put-text .last .0) (c .before .before .before .before .put-text .result) (decimal m ++ lineFeed)) (sym number)
     (fits-rest refusedText (decimal n ++ lineFeed) (start .pre) (c .before .before .before .before .put-text .ensures))
 
@@ -35,13 +35,13 @@ same-length : tie.Need-same-length
 same-length c = search needs
 
 returns : tie.Need-returns
-unfolding refusal
+unfolding refusalLine
 returns c =
     let start = c .before .before .before .before .before .before .before .before .before .before .before in
     let n = start .args .number in
     let put = c .before .before .put-last in
     put-then refusedText (decimal n ++ lineFeed) (c .before .before .before .before .before .before .before .put-text .ensures)
-    (subst (λ (m : ℕ). Put (c .before .before .before .before .before .before .before .put-text .last .0) (c .before .before .before .before .before .before .before .put-text .result) (decimal m ++ lineFeed) (put .last .0) (put .result)) (c .before .before .before .wide .ensures) (put .ensures))
+    (subst (λ (m : ℕ). Put (c .before .before .before .before .before .before .before .put-text .last .0) (c .before .before .before .before .before .before .before .put-text .result) (decimal m ++ lineFeed) (put .last .0) (put .result)) (c .before .before .before .byte-number .ensures) (put .ensures))
 
 pub put-refusal-spec : {M : Type 1} → statement M
 put-refusal-spec =
@@ -49,7 +49,7 @@ put-refusal-spec =
     (tie.spec
     slice-aggregate-put-text
     put-text-requires
-    wide-requires
+    byte-number-requires
     put-last-requires
     same-length
     returns)

@@ -1,0 +1,70 @@
+-- `rules5` meets its contract: rule 5 has struck for each kind line passed. The measure is the lines left. Assumes nothing.
+use borrow.Author.Needs.{needs}
+use native.Mathlib.Omega.{arith}
+use Rattle.rules.specs.Descriptions.{kindLine}
+use Rattle.rules.specs.Closing.{rule5, rules5}
+use Rattle.passes.specs.Passes.{Once}
+use Rattle.passes.proofs.Passes.{kept-few}
+use Rattle.once.proofs.Passing.{once-strikes, Along, along-start, along-kept, along-end, kind-there, kind-ready, kind-next}
+use Rattle.closing.proofs.walks.rules5.Statement.{statement}
+use Rattle.closing.proofs.walks.rules5.Tie as tie
+
+abbrev Inv-loop : tie.InvT-loop
+Inv-loop v count words cells₀ struck₀ at₀ left₀ cells struck at left =
+    Along (Once v) (λ ks. rule5) (kindLine v) count words cells₀ struck₀ cells struck at left
+
+abbrev μ-loop : tie.MeasureT-loop
+μ-loop v count words cells₀ struck₀ at₀ left₀ cells struck at left = left
+
+loop-holds : tie.Need-loop-holds Inv-loop μ-loop
+loop-holds c = along-start once-strikes (c .before .before .pre .0 .table)
+
+kind-at-requires : tie.Need-kind-at-requires Inv-loop μ-loop
+kind-at-requires c κs = kind-there once-strikes (c .before .loop .inv) (c .before .before .before .before .pre .1) (c .loop-test .taken)
+
+rule5-requires : tie.Need-rule5-requires Inv-loop μ-loop
+rule5-requires c κs =
+    let met = c .before in
+    let pre = met .before .before .before .before .before .pre in
+    kind-ready once-strikes (met .before .before .loop .inv) (pre .1) (met .before .loop-test .taken) (met .kind-at .ensures) (pre .0)
+
+sub-left : tie.Need-sub-left Inv-loop μ-loop
+sub-left c = search needs
+
+loop-less : tie.Need-loop-less Inv-loop μ-loop
+loop-less c = search needs
+
+loop-again : tie.Need-loop-again Inv-loop μ-loop
+loop-again c =
+    let met = c .before .before .before .before in
+    let pre = met .before .before .before .before .before .pre in
+    kind-next once-strikes (met .before .before .loop .inv) (pre .1) (met .before .loop-test .taken) (met .kind-at .ensures) (pre .0)
+    (λ ks e. c .before .before .rule5 .ensures)
+
+add-struck : tie.Need-add-struck Inv-loop μ-loop
+add-struck c =
+    let pre = c .before .before .before .before .before .before .before .before .before .pre in
+    omega (arith, kept-few (pre .0) (along-kept once-strikes (loop-again c) (pre .1)))
+
+same-length : tie.Need-same-length Inv-loop μ-loop
+same-length c = along-kept once-strikes (c .before .loop .inv) (c .before .before .before .before .pre .1) .inside .cells
+
+returns : tie.Need-returns Inv-loop μ-loop
+unfolding rules5
+returns c = along-end once-strikes (c .before .loop .inv) (c .loop-test .left)
+
+pub rules5-spec : {M : Type 1} → statement M
+rules5-spec =
+    tie.close
+    (tie.spec
+    Inv-loop
+    μ-loop
+    loop-holds
+    kind-at-requires
+    rule5-requires
+    add-struck
+    sub-left
+    loop-less
+    loop-again
+    same-length
+    returns)

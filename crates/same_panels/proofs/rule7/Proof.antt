@@ -1,0 +1,145 @@
+-- `rule7` meets its contract: each of its ends is one of the laws of two kind lines. Assumes nothing.
+use borrow.Author.Needs.{needs}
+use borrow.Author.Tests.{not-true, not-false}
+use mathlib.Core.Path.{sym, _∙_}
+use mathlib.Core.Logic.{⊎-elim}
+use native.Mathlib.Omega.{arith}
+use Rattle.rules.specs.Relations.{relations, has, setTo, setOf, complement}
+use Rattle.rules.specs.Descriptions.{KindLine}
+use Rattle.rules.proofs.Tests.{clash, unequal, equal}
+use Rattle.rules.proofs.Sets.{single-small}
+use Rattle.rules.proofs.Rules.{same-small}
+use Rattle.passes.proofs.Passes.{place-few, ready-place}
+use Rattle.kinds.specs.Lines.{lineAt}
+use Rattle.same_panels.proofs.Matching.{rule7-apart, rule7-struck, rule7-open, rule7-joined}
+use Rattle.same_panels.proofs.rule7.Statement.{statement}
+use Rattle.same_panels.proofs.rule7.Tie as tie
+
+-- the two kind lines
+abbrev one : tie.Start → KindLine
+one start = lineAt (start .args .words .now) (start .args .line)
+
+abbrev two : tie.Start → KindLine
+two start = lineAt (start .args .words .now) (start .args .other)
+
+mul-k : tie.Need-mul-k
+mul-k c = let pre = c .before .before .before .pre in record { fits = omega (arith, place-few (pre .0 .boards) (pre .1 .board) (pre .2 .board)) }
+
+add-k : tie.Need-add-k
+add-k c = let pre = c .before .before .before .before .pre in record { fits = omega (arith, place-few (pre .0 .boards) (pre .1 .board) (pre .2 .board)) }
+
+slice-read-x : tie.Need-slice-read-x
+slice-read-x c = let pre = c .before .before .before .before .before .pre in ready-place (pre .0) (pre .1 .board) (pre .2 .board)
+
+meet-requires : tie.Need-meet-requires
+meet-requires c κs = (c .before .before .before .before .before .pre .0 .table .small _, single-small same-small)
+
+returns : tie.Need-returns
+returns c =
+    let start = c .before .before .before .before .before .before .before in
+    rule7-apart (start .args .v) (one start) (two start) (start .args .cells .now) (start .pre .0) (start .pre .1 .board) (start .pre .2 .board)
+    (sym (c .before .meet .ensures) ∙ c .if1 .taken)
+
+mul-ways : tie.Need-mul-ways
+mul-ways c = search needs
+
+sub-ways : tie.Need-sub-ways
+sub-ways c = search needs
+
+part-ways-start : tie.Need-part-ways-start
+part-ways-start c = search needs
+
+part-ways-end : tie.Need-part-ways-end
+part-ways-end c = search needs
+
+mul-others : tie.Need-mul-others
+mul-others c = search needs
+
+sub-others : tie.Need-sub-others
+sub-others c = search needs
+
+part-others-start : tie.Need-part-others-start
+part-others-start c = search needs
+
+part-others-end : tie.Need-part-others-end
+part-others-end c = search needs
+
+ways-match-requires : tie.Need-ways-match-requires
+ways-match-requires c κs =
+    let pre = c .before .before .before .before .before .before .before .before .before .before .before .before .before .before .pre in
+    (pre .0, record { ways = pre .1 .boards; others = pre .2 .boards; same = equal _ _ (c .before .if3 .left) })
+
+narrow-requires : tie.Need-narrow-requires
+unfolding relations
+narrow-requires c κs =
+    let pre = c .before .before .before .before .before .before .before .before .before .before .before .before .before .pre in
+    (ready-place (pre .0) (pre .1 .board) (pre .2 .board), pre .0 .table .small _, omega arith)
+
+same-length : tie.Need-same-length
+same-length c = search needs
+
+returns-2 : tie.Need-returns-2
+unfolding relations has setTo setOf complement
+returns-2 c =
+    let test = c .before .before .before .before .before .before .before .before .before in
+    let start = test .before .before .before .before .before .before .before in
+    rule7-struck (start .args .v) (one start) (two start) (start .args .cells .now) (start .pre .0) (start .pre .1 .board) (start .pre .2 .board)
+    (λ e. test .if1 .left (test .before .meet .ensures ∙ e))
+    (λ alike each.
+    ⊎-elim (λ w. omega (arith, w .taken, alike .0))
+    (⊎-elim (λ w. unequal _ _ (w .1 .taken) (alike .1)) (λ w. clash (cc (not-true (w .3 .result) (w .4 .taken), w .3 .ensures))))
+    (c .before .before .before .before .if2 .came)) (c .before .before .narrow .ensures)
+
+same-length-2 : tie.Need-same-length-2
+same-length-2 c = search needs
+
+returns-3 : tie.Need-returns-3
+returns-3 c =
+    let start = c .before .before .before .before .before .before .before .before .before .before .before .before .before .before .before .before .before in
+    rule7-open (start .args .v) (one start) (two start) (start .args .cells .now) (start .pre .0) (start .pre .1 .board) (start .pre .2 .board)
+    (c .before .before .before .before .before .if2 .left, equal _ _ (c .before .before .before .before .if3 .left)) (c .before .before .ways-match .ensures)
+    (not-false _ (c .before .if4 .left)) (c .if5 .taken)
+
+match-ways-requires : tie.Need-match-ways-requires
+match-ways-requires c κs =
+    let test = c .before .before .before .before .before in
+    let pre = test .before .before .before .before .before .before .before .before .before .before .before .before .before .pre in
+    (pre .0, record { ways = pre .1 .boards; others = pre .2 .boards; same = equal _ _ (test .if3 .left) })
+
+same-length-3 : tie.Need-same-length-3
+same-length-3 c = search needs
+
+returns-4 : tie.Need-returns-4
+returns-4 c =
+    let test = c .before .before .before .before in
+    let start = test .before .before .before .before .before .before .before .before .before .before .before .before .before .before .before .before .before in
+    rule7-joined (start .args .v) (one start) (two start) (start .args .cells .now) (start .pre .0) (start .pre .1 .board) (start .pre .2 .board)
+    (test .before .before .before .before .before .if2 .left, equal _ _ (test .before .before .before .before .if3 .left))
+    (test .before .before .ways-match .ensures) (not-false _ (test .before .if4 .left)) (test .if5 .left) (c .before .before .match-ways .ensures)
+
+pub rule7-spec : {M : Type 1} → statement M
+rule7-spec =
+    tie.close
+    (tie.spec
+    mul-k
+    add-k
+    slice-read-x
+    meet-requires
+    returns
+    mul-ways
+    sub-ways
+    part-ways-start
+    part-ways-end
+    mul-others
+    sub-others
+    part-others-start
+    part-others-end
+    ways-match-requires
+    narrow-requires
+    same-length
+    returns-2
+    same-length-2
+    returns-3
+    match-ways-requires
+    same-length-3
+    returns-4)

@@ -1,4 +1,0 @@
--- The laws behind the functions of this crate.
-pub mod Settling
-pub mod Closings
-pub mod Determined

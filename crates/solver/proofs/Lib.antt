@@ -1,0 +1,4 @@
+-- The laws behind the calls.
+pub mod Admitting
+pub mod Freshness
+pub mod Determined

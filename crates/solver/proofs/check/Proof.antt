@@ -1,0 +1,41 @@
+-- `check` meets its contract: it is refused at once, or what checking the table comes to. Assumes nothing.
+use mathlib.Core.Path.{sym, _∙_}
+use Rattle.solver.proofs.Admitting.{admit-admitted, check-told}
+use borrow.Author.Needs.{needs}
+use Rattle.solver.proofs.check.Statement.{statement}
+use Rattle.solver.proofs.check.Tie as tie
+
+admit-requires : tie.Need-admit-requires
+admit-requires c κs = search needs
+
+enum-known-h : tie.Need-enum-known-h
+enum-known-h c = search needs
+
+check-table-requires : tie.Need-check-table-requires
+check-table-requires c κs =
+    admit-admitted (c .before .before .before .before .before .before .args .words .now) (c .before .before .before .before .before .before .args .table .now) (sym (c .before .h .given .1) ∙ c .before .before .before .admit .ensures)
+
+enum-known-r : tie.Need-enum-known-r
+enum-known-r c = search needs
+
+refuse-requires : tie.Need-refuse-requires
+refuse-requires c κs = search needs
+
+returns : tie.Need-returns
+returns c = search needs
+
+returns-2 : tie.Need-returns-2
+returns-2 c =
+    check-told (c .before .before .before .before .before .before .before .args .words .now) (c .before .before .before .before .before .before .before .args .table .now) _ (sym (c .before .before .r .given .1) ∙ c .before .before .before .before .admit .ensures) (c .refuse .ensures)
+
+pub check-spec : {M : Type 1} → statement M
+check-spec =
+    tie.close
+    (tie.spec
+    admit-requires
+    enum-known-h
+    check-table-requires
+    enum-known-r
+    refuse-requires
+    returns
+    returns-2)

@@ -1,0 +1,49 @@
+-- `close` meets its contract: it is refused at once, or what closing the table comes to. Assumes nothing.
+use mathlib.Core.Path.{sym, _∙_}
+use Rattle.solver.proofs.Admitting.{admit-admitted, close-told}
+use borrow.Author.Needs.{needs}
+use Rattle.solver.proofs.close.Statement.{statement}
+use Rattle.solver.proofs.close.Tie as tie
+
+admit-requires : tie.Need-admit-requires
+admit-requires c κs = search needs
+
+enum-known-h : tie.Need-enum-known-h
+enum-known-h c = search needs
+
+close-table-requires : tie.Need-close-table-requires
+close-table-requires c κs =
+    admit-admitted (c .before .before .before .before .before .before .before .before .args .words .now) (c .before .before .before .before .before .before .before .before .args .table .now) (sym (c .before .before .h .given .1) ∙ c .before .before .before .before .admit .ensures)
+
+enum-known-r : tie.Need-enum-known-r
+enum-known-r c = search needs
+
+refuse-requires : tie.Need-refuse-requires
+refuse-requires c κs = search needs
+
+same-length : tie.Need-same-length
+same-length c = search needs
+
+returns : tie.Need-returns
+returns c = search needs
+
+same-length-2 : tie.Need-same-length-2
+same-length-2 c = search needs
+
+returns-2 : tie.Need-returns-2
+returns-2 c =
+    close-told (c .before .before .before .before .before .before .before .before .args .words .now) (c .before .before .before .before .before .before .before .before .args .table .now) _ (sym (c .before .before .r .given .1) ∙ c .before .before .before .before .admit .ensures) (c .refuse .ensures)
+
+pub close-spec : {M : Type 1} → statement M
+close-spec =
+    tie.close
+    (tie.spec
+    admit-requires
+    enum-known-h
+    close-table-requires
+    enum-known-r
+    refuse-requires
+    same-length
+    returns
+    same-length-2
+    returns-2)

@@ -1,0 +1,2 @@
+-- What the opening of a call finds.
+pub mod Found

@@ -1,0 +1,98 @@
+// The solver's face: the calls, for whatever they are lent. The calls for C, the programs and later crates stand on these and see nothing below.
+ghost use mathlib.Core.Path.{_≡_};
+ghost use Rattle.rules.specs.Search.{plainOrder};
+ghost use Rattle.rules.specs.Calls.{reading, fresh, close, searching, check};
+ghost use Rattle.answers.specs.Answers.{answered, outcome};
+ghost use Rattle.solver.specs.Found.{admittedFound};
+use answers::Answer;
+use answers::limits::MOST_BOARDS;
+use answers::refusals::NO_TABLE;
+use answers::refusals::OUT_OF_RANGE;
+use answers::refusals::Refusal;
+use answers::refuse;
+use answers::succeed;
+use headers::HeaderFound;
+use relations::RELATIONS;
+
+// Opens a call: reads the description, then looks whether the table is one of as many boards.
+fn admit(words: &[u16], table: &[u8]) -> HeaderFound
+    ensures { λ r. ⌜ r ≡ admittedFound (now (words .entry)) (now (table .entry)) ⌝ }
+{
+    let h = match sheet::description(words) {
+        HeaderFound::Good(h) => h,
+        HeaderFound::Refused(r) => return HeaderFound::Refused(r),
+    };
+    if !tables::well_formed(h.boards, table) {
+        return HeaderFound::Refused(Refusal { number: NO_TABLE });
+    }
+    HeaderFound::Good(h)
+}
+
+// Reads a description: 0 if it is good, or its first refusal, 1 to 5.
+pub fn read(words: &[u16]) -> Answer
+    ensures { λ a. ⌜ a ≡ answered (reading (now (words .entry))) 0 ⌝ }
+{
+    match sheet::description(words) {
+        HeaderFound::Good(_) => succeed(0),
+        HeaderFound::Refused(refusal) => refuse(refusal.number, 0),
+    }
+}
+
+// Makes the lent table one of v boards of which nothing is known yet: each cell holds all relations. Refuses a number of boards out of range with 1,
+// then a wrong number of cells with 6, and then leaves the table as it came.
+pub fn fresh(v: usize, table: &mut [u8]) -> Answer
+    ensures { λ a. ⌜ outcome a (now (table .exit)) ≡ fresh v (now (table .entry)) ⌝ }
+{
+    if v < 1 || MOST_BOARDS < v {
+        return refuse(OUT_OF_RANGE, 0);
+    }
+    if table.len() != v * v {
+        return refuse(NO_TABLE, 0);
+    }
+    tables::fill(table, relations::FULL);
+    succeed(0)
+}
+
+// Replaces the lent table by the largest closed table inside it, and answers how many relations that struck. Refuses a description with 1 to 5, then a
+// table that is none of as many boards with 6, then with 7 where the largest closed table has an empty cell; and then leaves the table as it came.
+pub fn close(words: &[u16], table: &mut [u8]) -> Answer
+    ensures { λ a. ⌜ outcome a (now (table .exit)) ≡ close (now (words .entry)) (now (table .entry)) ⌝ }
+{
+    match admit(words, table) {
+        HeaderFound::Good(h) => closing::close_table(h, words, table),
+        HeaderFound::Refused(r) => refuse(r.number, 0),
+    }
+}
+
+// The order in which a search tries the relations: E, A, B, S.
+fn plain_order() -> [u8; RELATIONS]
+    ensures { λ r. ⌜ r ≡ plainOrder ⌝ }
+{
+    [0, 1, 2, 3]
+}
+
+// Replaces the lent table by the first arrangement inside it, in the order E, A, B, S, and answers how many tries that took. Refuses a description
+// with 1 to 5, then a table that is none of as many boards with 6, then with 8 and the tries made where there is no arrangement inside it, or with 9
+// and the budget where more tries are needed; and then leaves the table as it came.
+pub fn search(words: &[u16], table: &mut [u8], budget: u32) -> Answer
+    ensures { λ a. ⌜ outcome a (now (table .exit)) ≡ searching plainOrder (now (words .entry)) (now (table .entry)) budget ⌝ }
+{
+    match admit(words, table) {
+        HeaderFound::Good(h) => {
+            let order = plain_order();
+            search::search_table(h, words, &order, budget, table)
+        }
+        HeaderFound::Refused(r) => refuse(r.number, 0),
+    }
+}
+
+// Says whether the table is an arrangement, whoever proposed it: 0 if it is, 10 if not. Refuses a description with 1 to 5, then a table that is none
+// of as many boards with 6. The table is only read.
+pub fn check(words: &[u16], table: &[u8]) -> Answer
+    ensures { λ a. ⌜ outcome a (now (table .entry)) ≡ check (now (words .entry)) (now (table .entry)) ⌝ }
+{
+    match admit(words, table) {
+        HeaderFound::Good(h) => checking::check_table(h, words, table),
+        HeaderFound::Refused(r) => refuse(r.number, 0),
+    }
+}

@@ -1,0 +1,167 @@
+-- `rules2` meets its contract: each turn is one strike by a bound that grows. The measures are the boards left. Assumes nothing.
+use mathlib.Core.Path.{sym, subst}
+use mathlib.Core.List.{flatMap}
+use Prim.Native.Nat.{ℕ, _+_, _*_, _-_, _≤_, _<_}
+use native.Mathlib.Omega.{arith}
+use Rattle.rules.specs.Relations.{setLimit}
+use Rattle.rules.specs.Tables.{cell, upTo}
+use Rattle.rules.specs.Closing.{boardsOf, rules2}
+use Rattle.rules.proofs.Composition.{converse-small}
+use Rattle.passes.specs.Passes.{mostMembers, Quiet, Pass}
+use Rattle.passes.proofs.Passes.{pass-start, pass-next, pass-whole, kept-then, kept-few, place-few, ready-place, ready-kept}
+use Rattle.sweeps.proofs.Sweeping.{across, across-turn}
+use Rattle.sweeps.proofs.rules2.Statement.{statement}
+use Rattle.sweeps.proofs.rules2.Tie as tie
+
+abbrev Inv-loop2 : tie.InvT-loop2
+Inv-loop2 v cells₀ struck₀ p q₀ cells struck q = (q ≤ v) × Pass (Quiet v) v (flatMap (across v p) (upTo q)) cells₀ struck₀ cells struck
+
+abbrev μ-loop2 : tie.MeasureT-loop2
+μ-loop2 v cells₀ struck₀ p q₀ cells struck q = v - q
+
+abbrev Inv-loop : tie.InvT-loop
+Inv-loop v cells₀ struck₀ p₀ cells struck p =
+    (p ≤ v) × Pass (Quiet v) v (flatMap (λ p. boardsOf v (across v p)) (upTo p)) cells₀ struck₀ cells struck
+
+abbrev μ-loop : tie.MeasureT-loop
+μ-loop v cells₀ struck₀ p₀ cells struck p = v - p
+
+loop-holds : tie.Need-loop-holds Inv-loop2 μ-loop2 Inv-loop μ-loop
+loop-holds c = (omega arith, pass-start _ _ (c .before .pre .table))
+
+loop2-holds : tie.Need-loop2-holds Inv-loop2 μ-loop2 Inv-loop μ-loop
+loop2-holds c = (omega arith, pass-start _ _ (c .before .loop .inv .1 .kept .table))
+
+mul-converse : tie.Need-mul-converse Inv-loop2 μ-loop2 Inv-loop μ-loop
+mul-converse c =
+    let start = c .before .before .before .before .before in
+    let l : c .before .before .before .loop .p < start .args .v = c .before .before .loop-test .taken in
+    let m : c .before .loop2 .q < start .args .v = c .loop2-test .taken in
+    record { fits = omega (arith, place-few (start .pre .boards) l m) }
+
+add-converse : tie.Need-add-converse Inv-loop2 μ-loop2 Inv-loop μ-loop
+add-converse c =
+    let start = c .before .before .before .before .before in
+    let l : c .before .before .before .loop .p < start .args .v = c .before .before .loop-test .taken in
+    let m : c .before .loop2 .q < start .args .v = c .loop2-test .taken in
+    record { fits = omega (arith, place-few (start .pre .boards) l m) }
+
+slice-read-converse : tie.Need-slice-read-converse Inv-loop2 μ-loop2 Inv-loop μ-loop
+slice-read-converse c =
+    let start = c .before .before .before .before .before .before in
+    ready-place (ready-kept (ready-kept (start .pre) (c .before .before .before .before .loop .inv .1 .kept)) (c .before .before .loop2 .inv .1 .kept)) (c .before .before .before .loop-test .taken)
+    (c .before .loop2-test .taken)
+
+converse-requires : tie.Need-converse-requires Inv-loop2 μ-loop2 Inv-loop μ-loop
+converse-requires c κs = c .before .before .loop2 .inv .1 .kept .table .small (c .before .before .before .before .before .before .args .v * c .before .before .before .before .loop .p + c .before .before .loop2 .q)
+
+mul-k : tie.Need-mul-k Inv-loop2 μ-loop2 Inv-loop μ-loop
+mul-k c =
+    let start = c .before .before .before .before .before .before .before in
+    let l : c .before .before .before .before .before .loop .p < start .args .v = c .before .before .before .before .loop-test .taken in
+    let m : c .before .before .before .loop2 .q < start .args .v = c .before .before .loop2-test .taken in
+    record { fits = omega (arith, place-few (start .pre .boards) m l) }
+
+add-k : tie.Need-add-k Inv-loop2 μ-loop2 Inv-loop μ-loop
+add-k c =
+    let start = c .before .before .before .before .before .before .before in
+    let l : c .before .before .before .before .before .loop .p < start .args .v = c .before .before .before .before .loop-test .taken in
+    let m : c .before .before .before .loop2 .q < start .args .v = c .before .before .loop2-test .taken in
+    record { fits = omega (arith, place-few (start .pre .boards) m l) }
+
+narrow-requires : tie.Need-narrow-requires Inv-loop2 μ-loop2 Inv-loop μ-loop
+narrow-requires c κs =
+    let start = c .before .before .before .before .before .before .before .before in
+    let loop2 = c .before .before .before .before .loop2 in
+    let p = c .before .before .before .before .before .before .loop .p in
+    let ready = ready-kept (ready-kept (start .pre) (c .before .before .before .before .before .before .loop .inv .1 .kept)) (loop2 .inv .1 .kept) in (
+      ready-place ready (c .before .before .before .loop2-test .taken) (c .before .before .before .before .before .loop-test .taken),
+      ready .table .small (start .args .v * loop2 .q + p),
+      subst (λ (x : ℕ). x < setLimit) (sym (c .before .converse .ensures)) (converse-small (cell (start .args .v) (loop2 .cells) p (loop2 .q))),
+    )
+
+add-struck : tie.Need-add-struck Inv-loop2 μ-loop2 Inv-loop μ-loop
+add-struck c =
+    let start = c .before .before .before .before .before .before .before .before .before .before .before in
+    let loop = c .before .before .before .before .before .before .before .before .before .loop in
+    let loop2 = c .before .before .before .before .before .before .before .loop2 in
+    let k = across-turn (ready-kept (start .pre) (loop .inv .1 .kept)) (c .before .before .before .before .before .before .before .before .loop-test .taken) (c .before .before .before .before .before .before .loop2-test .taken) (loop2 .inv .1) (c .before .before .before .before .converse .ensures) (c .before .before .narrow .ensures) in
+    let l : loop2 .struck + c .before .before .narrow .result ≤ 0 + mostMembers = kept-few (start .pre) (kept-then _ (loop .inv .1 .kept) (k .kept)) in
+    record { fits = omega arith }
+
+add-q : tie.Need-add-q Inv-loop2 μ-loop2 Inv-loop μ-loop
+add-q c =
+    let start = c .before .before .before .before .before .before .before .before .before .before .before in
+    let l : c .before .before .before .before .before .before .before .loop2 .q < start .args .v = c .before .before .before .before .before .before .loop2-test .taken in
+    let m : start .args .v ≤ 16 = start .pre .boards in
+    record { fits = omega arith }
+
+loop2-less : tie.Need-loop2-less Inv-loop2 μ-loop2 Inv-loop μ-loop
+loop2-less c = omega (arith, c .before .before .before .before .before .before .loop2-test .taken)
+
+loop2-again : tie.Need-loop2-again Inv-loop2 μ-loop2 Inv-loop μ-loop
+loop2-again c =
+    let start = c .before .before .before .before .before .before .before .before .before .before .before in
+    let loop2 = c .before .before .before .before .before .before .before .loop2 in
+    let l : loop2 .q < start .args .v = c .before .before .before .before .before .before .loop2-test .taken in (
+      omega arith,
+      across-turn (ready-kept (start .pre) (c .before .before .before .before .before .before .before .before .before .loop .inv .1 .kept)) (c .before .before .before .before .before .before .before .before .loop-test .taken) l (loop2 .inv .1)
+          (c .before .before .before .before .converse .ensures) (c .before .before .narrow .ensures),
+    )
+
+add-p : tie.Need-add-p Inv-loop2 μ-loop2 Inv-loop μ-loop
+add-p c =
+    let start = c .before .before .before .before .before in
+    let l : c .before .before .before .loop .p < start .args .v = c .before .before .loop-test .taken in
+    let m : start .args .v ≤ 16 = start .pre .boards in
+    record { fits = omega arith }
+
+loop-less : tie.Need-loop-less Inv-loop2 μ-loop2 Inv-loop μ-loop
+loop-less c = omega (arith, c .before .before .loop-test .taken)
+
+loop-again : tie.Need-loop-again Inv-loop2 μ-loop2 Inv-loop μ-loop
+loop-again c =
+    let start = c .before .before .before .before .before in
+    let loop = c .before .before .before .loop in
+    let l : loop .p < start .args .v = c .before .before .loop-test .taken in (
+      omega arith,
+      pass-next _ (λ p. boardsOf (start .args .v) (across (start .args .v) p)) (loop .p) (start .pre .table) (loop .inv .1)
+          (pass-whole _ (across (start .args .v) (loop .p)) (start .args .v) (c .before .loop2 .inv .0) (c .loop2-test .left) (c .before .loop2 .inv .1)),
+    )
+
+same-length : tie.Need-same-length Inv-loop2 μ-loop2 Inv-loop μ-loop
+same-length c = c .before .loop .inv .1 .kept .inside .cells
+
+returns : tie.Need-returns Inv-loop2 μ-loop2 Inv-loop μ-loop
+unfolding rules2
+returns c =
+    let start = c .before .before .before in
+    pass-whole _ (λ p. boardsOf (start .args .v) (across (start .args .v) p)) (start .args .v) (c .before .loop .inv .0) (c .loop-test .left)
+    (c .before .loop .inv .1)
+
+pub rules2-spec : {M : Type 1} → statement M
+rules2-spec =
+    tie.close
+    (tie.spec
+    Inv-loop2
+    μ-loop2
+    Inv-loop
+    μ-loop
+    loop-holds
+    loop2-holds
+    mul-converse
+    add-converse
+    slice-read-converse
+    converse-requires
+    mul-k
+    add-k
+    narrow-requires
+    add-struck
+    add-q
+    loop2-less
+    loop2-again
+    add-p
+    loop-less
+    loop-again
+    same-length
+    returns)

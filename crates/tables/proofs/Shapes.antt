@@ -1,0 +1,61 @@
+-- Well-formed tables by the tests that the code makes, and how many cells there are. Assumes nothing.
+use mathlib.Core.Path.{_≡_, sym, ap, _∙_}
+use mathlib.Core.Bool.{Bool, true, false, _&&_}
+use mathlib.Core.List.{List}
+use Prim.Native.Nat.{ℕ, _*_, _≤_, _<_}
+use native.Mathlib.Nat.{mul-le-mul-right}
+use native.Mathlib.Omega.{arith}
+use borrow.Author.Tests.{eq-eqb, ne-eqb}
+use lib.Dec.{eqb, ltb, lt→ltb, ltb→lt}
+use lib.ListN.{length, getD, take, replicate, length-replicate}
+use lib.Seq.{length-take-le}
+use Rattle.rules.specs.Relations.{eachOf, relations, setLimit}
+use Rattle.rules.specs.Descriptions.{mostCells, mostBoards}
+use Rattle.rules.specs.Calls.{wellFormed}
+use Rattle.rules.proofs.Tests.{T-true, T-false}
+use Rattle.rules.proofs.Members.{each-of-out, each-of-places, member-at}
+use Rattle.passes.specs.Passes.{Ready}
+
+-- a table's number of cells is small
+pub square-small : (v : ℕ) → v ≤ mostBoards → v * v ≤ mostCells
+square-small v h = let l : v * v ≤ mostBoards * v = mul-le-mul-right v h in omega arith
+
+ready-fits : {v : ℕ} {t : List ℕ} → Ready v t → length t ≤ mostCells
+ready-fits {v} r = let e = r .table .cells in omega (arith, square-small v (r .boards))
+
+-- a table fits in the room for one, where as many cells are taken for it
+module _ {v : ℕ} {t r : List ℕ} (ready : Ready v t) (room : r ≡ replicate mostCells 0) where
+  pub room-fits : length t ≤ length r
+  room-fits = omega (arith, ready-fits ready, ap length room ∙ length-replicate {A = ℕ} mostCells 0)
+
+  pub room-taken : length (take (length t) r) ≡ length t
+  room-taken = length-take-le (length t) r room-fits
+
+-- ---- each cell is a set
+
+module _ (t : List ℕ) where
+  pub sets-each : ((k : ℕ) → k < length t → getD t k 0 ≤ 15) → true ≡ eachOf (λ x. ltb x setLimit) t
+  unfolding relations
+  sets-each f =
+      sym (T-true {b = eachOf (λ x. ltb x setLimit) t} (each-of-places (λ x. ltb x setLimit) t (λ k l. lt→ltb (getD t k 0) setLimit (omega (arith, f k l)))))
+
+  pub sets-none : (k : ℕ) → k < length t → 15 < getD t k 0 → false ≡ eachOf (λ x. ltb x setLimit) t
+  unfolding relations
+  sets-none k l h =
+      sym (T-false {b = eachOf (λ x. ltb x setLimit) t}
+      (λ a. let m : getD t k 0 < setLimit = ltb→lt (getD t k 0) setLimit (each-of-out (λ x. ltb x setLimit) t a (getD t k 0) (member-at t k l)) in
+      omega (arith, h)))
+
+  -- ---- the number of cells
+
+  module _ (v : ℕ) where
+    by-cells : Bool → Bool
+    by-cells b = b && eachOf (λ x. ltb x setLimit) t
+
+    pub cells-differ : (length t ≡ v * v → ⊥) → false ≡ wellFormed v t
+    unfolding wellFormed by-cells
+    cells-differ f = sym (ap by-cells (ne-eqb (length t) (v * v) f))
+
+    pub cells-agree : length t ≡ v * v → {b : Bool} → b ≡ eachOf (λ x. ltb x setLimit) t → b ≡ wellFormed v t
+    unfolding wellFormed by-cells
+    cells-agree e f = f ∙ sym (ap by-cells (eq-eqb (length t) (v * v) e))

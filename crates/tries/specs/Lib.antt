@@ -1,5 +1,0 @@
--- What the functions of this crate promise each other, and those above them.
-pub mod Pairs
-pub mod Choices
-pub mod Hunts
-pub mod Tries

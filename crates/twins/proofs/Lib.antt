@@ -1,3 +1,0 @@
--- The laws behind the functions of this crate.
-pub mod Twinning
-pub mod Determined

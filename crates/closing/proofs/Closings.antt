@@ -22,7 +22,7 @@ use Rattle.headers.specs.declared.Header.{Header}
 use Rattle.sheet.proofs.Described.{described, described-one}
 use Rattle.sweeps.specs.declared.Swept.{Swept}
 use Rattle.sweeps.specs.declared.Swept.the-variants.{Struck, Emptied}
-use Rattle.closing.specs.Rounds.{rulesAgain, Settled, afterRounds}
+use Rattle.rounds.specs.Rounds.{rulesAgain, Settled, afterRounds}
 use Rattle.closing.specs.Closes.{rulesOnce, OnceUnder, Closes, closes, ClosesUnder, Admitted}
 
 -- ---- rules 1, 4 and 5, and the others

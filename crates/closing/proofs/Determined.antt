@@ -17,6 +17,7 @@ use Rattle.sheet.specs.Found.{descriptionFound}
 use Rattle.sheet.proofs.Described.{described}
 use Rattle.sweeps.specs.declared.Swept.{Swept}
 use Rattle.sweeps.specs.declared.Swept.the-variants.{Struck, Emptied}
+use Rattle.rounds.proofs.Determined.{Fixed}
 use Rattle.closing.specs.Closes.{Closes, closes, ClosesUnder}
 use Rattle.closing.proofs.close_cells.Kinds as close-cells-kinds
 use Rattle.closing.proofs.close_cells.Reads as close-cells
@@ -24,10 +25,6 @@ use Rattle.closing.proofs.close_table.Kinds as table-kinds
 use Rattle.closing.proofs.close_table.Reads as table
 use Rattle.closing.proofs.close_again.Kinds as again-kinds
 use Rattle.closing.proofs.close_again.Reads as again
-
--- the result, and the cells unless one was emptied
-abbrev Fixed : Swept → Swept → List ℕ → List ℕ → Type 0
-Fixed q r u w = (q ≡ r) × ((q ≡ Emptied → ⊥) → u ≡ w)
 
 closes-determined : (ws : List ℕ) (s : Sheet) → read ws ≡ good s → (t : List ℕ) → Table (s .boards) t → (u w : List ℕ) (q r : Swept)
     → ClosesUnder ws t u q → ClosesUnder ws t w r → Fixed q r u w

@@ -1,5 +1,4 @@
 -- The laws behind the functions of this crate.
-pub mod Repeating
 pub mod Closings
 pub mod Calling
 pub mod Determined

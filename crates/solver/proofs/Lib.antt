@@ -1,4 +1,3 @@
 -- The laws behind the calls.
-pub mod Admitting
 pub mod Freshness
 pub mod Determined

@@ -3,30 +3,14 @@ ghost use mathlib.Core.Path.{_≡_};
 ghost use Rattle.rules.specs.Search.{plainOrder};
 ghost use Rattle.rules.specs.Calls.{reading, fresh, close, searching, check};
 ghost use Rattle.answers.specs.Answers.{answered, outcome};
-ghost use Rattle.solver.specs.Found.{admittedFound};
 use answers::Answer;
 use answers::limits::MOST_BOARDS;
 use answers::refusals::NO_TABLE;
 use answers::refusals::OUT_OF_RANGE;
-use answers::refusals::Refusal;
 use answers::refuse;
 use answers::succeed;
 use headers::HeaderFound;
 use relations::RELATIONS;
-
-// Opens a call: reads the description, then looks whether the table is one of as many boards.
-fn admit(words: &[u16], table: &[u8]) -> HeaderFound
-    ensures { λ r. ⌜ r ≡ admittedFound (now (words .entry)) (now (table .entry)) ⌝ }
-{
-    let h = match sheet::description(words) {
-        HeaderFound::Good(h) => h,
-        HeaderFound::Refused(r) => return HeaderFound::Refused(r),
-    };
-    if !tables::well_formed(h.boards, table) {
-        return HeaderFound::Refused(Refusal { number: NO_TABLE });
-    }
-    HeaderFound::Good(h)
-}
 
 // Reads a description: 0 if it is good, or its first refusal, 1 to 5.
 pub fn read(words: &[u16]) -> Answer
@@ -58,7 +42,7 @@ pub fn fresh(v: usize, table: &mut [u8]) -> Answer
 pub fn close(words: &[u16], table: &mut [u8]) -> Answer
     ensures { λ a. ⌜ outcome a (now (table .exit)) ≡ close (now (words .entry)) (now (table .entry)) ⌝ }
 {
-    match admit(words, table) {
+    match opening::admit(words, table) {
         HeaderFound::Good(h) => closing::close_table(h, words, table),
         HeaderFound::Refused(r) => refuse(r.number, 0),
     }
@@ -77,7 +61,7 @@ fn plain_order() -> [u8; RELATIONS]
 pub fn search(words: &[u16], table: &mut [u8], budget: u32) -> Answer
     ensures { λ a. ⌜ outcome a (now (table .exit)) ≡ searching plainOrder (now (words .entry)) (now (table .entry)) budget ⌝ }
 {
-    match admit(words, table) {
+    match opening::admit(words, table) {
         HeaderFound::Good(h) => {
             let order = plain_order();
             search::search_table(h, words, &order, budget, table)
@@ -91,7 +75,7 @@ pub fn search(words: &[u16], table: &mut [u8], budget: u32) -> Answer
 pub fn check(words: &[u16], table: &[u8]) -> Answer
     ensures { λ a. ⌜ outcome a (now (table .entry)) ≡ check (now (words .entry)) (now (table .entry)) ⌝ }
 {
-    match admit(words, table) {
+    match opening::admit(words, table) {
         HeaderFound::Good(h) => checking::check_table(h, words, table),
         HeaderFound::Refused(r) => refuse(r.number, 0),
     }

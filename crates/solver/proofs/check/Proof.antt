@@ -1,6 +1,6 @@
 -- `check` meets its contract: it is refused at once, or what checking the table comes to. Assumes nothing.
 use mathlib.Core.Path.{sym, _∙_}
-use Rattle.solver.proofs.Admitting.{admit-admitted, check-told}
+use Rattle.opening.proofs.Admitting.{admit-admitted, check-told}
 use borrow.Author.Needs.{needs}
 use Rattle.solver.proofs.check.Statement.{statement}
 use Rattle.solver.proofs.check.Tie as tie

@@ -1,6 +1,6 @@
 -- `close` meets its contract: it is refused at once, or what closing the table comes to. Assumes nothing.
 use mathlib.Core.Path.{sym, _∙_}
-use Rattle.solver.proofs.Admitting.{admit-admitted, close-told}
+use Rattle.opening.proofs.Admitting.{admit-admitted, close-told}
 use borrow.Author.Needs.{needs}
 use Rattle.solver.proofs.close.Statement.{statement}
 use Rattle.solver.proofs.close.Tie as tie

@@ -6,7 +6,7 @@ use Rattle.rules.specs.Search.{Order}
 use Rattle.rules.specs.Calls.{searching}
 use Rattle.rules.proofs.Search.{plain-order}
 use Rattle.answers.specs.Answers.{outcome}
-use Rattle.solver.proofs.Admitting.{admit-admitted, search-told}
+use Rattle.opening.proofs.Admitting.{admit-admitted, search-told}
 use borrow.Author.Needs.{needs}
 use Rattle.solver.proofs.search.Statement.{statement}
 use Rattle.solver.proofs.search.Tie as tie

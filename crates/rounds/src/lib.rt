@@ -1,7 +1,9 @@
 // Rounds of the rules whose bounds depend on the table, until a round strikes nothing.
+mod walks;
+
 ghost use Rattle.passes.specs.Passes.{Ready};
 ghost use Rattle.kinds.specs.Sections.{HasKinds, WithKinds};
-ghost use Rattle.closing.specs.Rounds.{rulesAgain, afterRound, afterRounds};
+ghost use Rattle.rounds.specs.Rounds.{rulesAgain, afterRound, afterRounds};
 use crate::walks::rules6;
 use crate::walks::rules7;
 use sweeps::Swept;
@@ -24,7 +26,7 @@ fn round(v: usize, count: usize, words: &[u16], cells: &mut [u8]) -> Swept
 }
 
 // Repeats rules 2, 6, 7 and 3 until a round strikes nothing. `words` are the `count` kind lines.
-pub(crate) fn rounds(v: usize, count: usize, words: &[u16], cells: &mut [u8]) -> Swept
+pub fn rounds(v: usize, count: usize, words: &[u16], cells: &mut [u8]) -> Swept
     requires { ⌜ Ready v (now cells) × HasKinds v count (now words) ⌝ }
     ensures { λ r. ⌜ WithKinds v count (now (words .entry)) (λ ks. afterRounds v (rulesAgain v ks) (now (cells .entry)) (now (cells .exit)) r) ⌝ }
 {

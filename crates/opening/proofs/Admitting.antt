@@ -19,7 +19,7 @@ use Rattle.headers.specs.Found.{numbersFound}
 use Rattle.sheet.specs.Found.{descriptionFound}
 use Rattle.sheet.proofs.Described.{described, described-one}
 use Rattle.closing.specs.Closes.{Admitted}
-use Rattle.solver.specs.Found.{admittedFound}
+use Rattle.opening.specs.Found.{admittedFound}
 
 module _ (ws t : List ℕ) where
   -- what is found, by what is read and by whether the table is well-formed for a sheet

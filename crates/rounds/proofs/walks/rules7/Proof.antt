@@ -6,9 +6,9 @@ use Rattle.rules.specs.Closing.{rules7}
 use Rattle.passes.specs.Passes.{Pass, Quiet}
 use Rattle.passes.proofs.Passes.{kept-few}
 use Rattle.once.proofs.Passing.{pass-strikes, Along, along-start, along-kept, along-end, kind-there, kind-ready, kind-next}
-use Rattle.closing.specs.Rounds.{pairedWith}
-use Rattle.closing.proofs.walks.rules7.Statement.{statement}
-use Rattle.closing.proofs.walks.rules7.Tie as tie
+use Rattle.rounds.specs.Rounds.{pairedWith}
+use Rattle.rounds.proofs.walks.rules7.Statement.{statement}
+use Rattle.rounds.proofs.walks.rules7.Tie as tie
 
 abbrev Inv-loop : tie.InvT-loop
 Inv-loop v count words cells₀ struck₀ at₀ left₀ cells struck at left =

@@ -7,10 +7,10 @@ use Rattle.rules.specs.Tables.{total}
 use Rattle.passes.specs.Passes.{Kept}
 use Rattle.passes.proofs.Passes.{kept-start, kept-few, ready-kept}
 use Rattle.kinds.specs.Sections.{WithKinds}
-use Rattle.closing.specs.Rounds.{rulesAgain, afterRound}
-use Rattle.closing.proofs.Repeating.{rounds-again, rounds-settled, rounds-clash}
-use Rattle.closing.proofs.rounds.rounds.Statement.{statement}
-use Rattle.closing.proofs.rounds.rounds.Tie as tie
+use Rattle.rounds.specs.Rounds.{rulesAgain, afterRound}
+use Rattle.rounds.proofs.Repeating.{rounds-again, rounds-settled, rounds-clash}
+use Rattle.rounds.proofs.rounds.Statement.{statement}
+use Rattle.rounds.proofs.rounds.Tie as tie
 
 abbrev Inv-loop : tie.InvT-loop
 Inv-loop v count words cells₀ struck₀ cells struck = WithKinds v count words (λ ks. Kept v (rulesAgain v ks) cells₀ struck₀ cells struck)

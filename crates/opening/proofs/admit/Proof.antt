@@ -1,10 +1,10 @@
 -- `admit` meets its contract: each of its ends is one of the laws of opening a call. Assumes nothing.
 use mathlib.Core.Path.{sym, _∙_}
 use Rattle.sheet.proofs.Described.{described}
-use Rattle.solver.proofs.Admitting.{admit-undescribed, admit-no-table, admit-good}
+use Rattle.opening.proofs.Admitting.{admit-undescribed, admit-no-table, admit-good}
 use borrow.Author.Needs.{needs}
-use Rattle.solver.proofs.admit.Statement.{statement}
-use Rattle.solver.proofs.admit.Tie as tie
+use Rattle.opening.proofs.admit.Statement.{statement}
+use Rattle.opening.proofs.admit.Tie as tie
 
 description-requires : tie.Need-description-requires
 description-requires c κs = search needs

@@ -7,10 +7,10 @@ use Rattle.rules.specs.Closing.{rules2, rules3, rules6, rules7}
 use Rattle.passes.proofs.Passes.{kept-few, ready-kept}
 use Rattle.sweeps.specs.Sweeps.{sweeping}
 use Rattle.sweeps.proofs.Sweeping.{threes-see}
-use Rattle.closing.specs.Rounds.{Round, rulesAgain}
-use Rattle.closing.proofs.Repeating.{round-struck, round-clash}
-use Rattle.closing.proofs.rounds.round.Statement.{statement}
-use Rattle.closing.proofs.rounds.round.Tie as tie
+use Rattle.rounds.specs.Rounds.{Round, rulesAgain}
+use Rattle.rounds.proofs.Repeating.{round-struck, round-clash}
+use Rattle.rounds.proofs.round.Statement.{statement}
+use Rattle.rounds.proofs.round.Tie as tie
 
 rules2-requires : tie.Need-rules2-requires
 rules2-requires c κs = search needs

@@ -8,7 +8,7 @@ use Rattle.rules.proofs.Members.{all-append, append-left, append-right}
 use Rattle.passes.specs.Passes.{Filled, Ready, Kept, Pass, Quiet, Sound, Clash}
 use Rattle.passes.proofs.Passes.{kept-then, kept-as, kept-from, kept-tight, pass-then, pass-from}
 use Rattle.sweeps.proofs.Sweeping.{Sees}
-use Rattle.closing.specs.Rounds.{Round, Settled}
+use Rattle.rounds.specs.Rounds.{Round, Settled}
 
 module _ {v : ℕ} where
   sound-quiet : {rs : List Rule} {t w : List ℕ} {a b : ℕ} → Pass (Sound v) v rs t a w b → Pass (Quiet v) v rs t a w b

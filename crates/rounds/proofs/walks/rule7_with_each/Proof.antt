@@ -7,8 +7,8 @@ use Rattle.passes.specs.Passes.{Pass, Quiet}
 use Rattle.passes.proofs.Passes.{kept-few}
 use Rattle.once.proofs.Passing.{pass-strikes, Along, along-start, along-kept, along-end, kind-there, kind-ready, kind-next}
 use Rattle.kinds.specs.Lines.{lineAt}
-use Rattle.closing.proofs.walks.rule7_with_each.Statement.{statement}
-use Rattle.closing.proofs.walks.rule7_with_each.Tie as tie
+use Rattle.rounds.proofs.walks.rule7_with_each.Statement.{statement}
+use Rattle.rounds.proofs.walks.rule7_with_each.Tie as tie
 
 abbrev Inv-loop : tie.InvT-loop
 Inv-loop v count words line cells₀ struck₀ at₀ left₀ cells struck at left =

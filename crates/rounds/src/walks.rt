@@ -1,31 +1,13 @@
 // The kind lines of a description, passed one after the other: what the rules of each line, or of each two, strike.
-ghost use Rattle.rules.specs.Closing.{rules5, rules6, rules7};
-ghost use Rattle.passes.specs.Passes.{Ready, Pass, Quiet, Once};
+ghost use Rattle.rules.specs.Closing.{rules6, rules7};
+ghost use Rattle.passes.specs.Passes.{Ready, Pass, Quiet};
 ghost use Rattle.kinds.specs.Lines.{lineAt, StandsIn};
 ghost use Rattle.kinds.specs.Sections.{HasKinds, WithKinds};
-ghost use Rattle.closing.specs.Rounds.{pairedWith};
+ghost use Rattle.rounds.specs.Rounds.{pairedWith};
 use kinds::KindLine;
 use kinds::kind_at;
-use once::rule5;
 use panels::rule6;
 use same_panels::rule7;
-
-// Rule 5 of every kind line: its ways lie below the panel and beside each other.
-pub(crate) fn rules5(v: usize, count: usize, words: &[u16], cells: &mut [u8]) -> u32
-    requires { ⌜ Ready v (now cells) × HasKinds v count (now words) ⌝ }
-    ensures { λ n. ⌜ WithKinds v count (now (words .entry)) (λ ks. Once v (rules5 ks) (now (cells .entry)) 0 (now (cells .exit)) n) ⌝ }
-{
-    let mut struck = 0;
-    let mut at = 0;
-    let mut left = count;
-    while 0 < left {
-        let line = kind_at(words, at);
-        struck += rule5(v, words, line, cells);
-        at = line.end;
-        left -= 1;
-    }
-    struck
-}
 
 // Rule 6 of every kind line: what is below the panel is at or below one of its ways.
 pub(crate) fn rules6(v: usize, count: usize, words: &[u16], cells: &mut [u8]) -> u32

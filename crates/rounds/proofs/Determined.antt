@@ -1,0 +1,40 @@
+-- Any two outcomes of the rounds are equal, but for the cells where one was emptied. Assumes nothing.
+use mathlib.Core.Path.{_≡_, refl, ap}
+use mathlib.Core.List.{List}
+use Prim.Native.Nat.{ℕ}
+use lib.Dec.{T-not}
+use Rattle.rules.specs.Tables.{emptied}
+use Rattle.rules.specs.Closing.{Rule}
+use Rattle.rules.proofs.Inside.{inside-antisym}
+use Rattle.passes.specs.Passes.{Clash}
+use Rattle.passes.proofs.Passes.{kept-determined}
+use Rattle.contracts.specs.Contracts.{OfTwo}
+use Rattle.sweeps.specs.declared.Swept.{Swept}
+use Rattle.sweeps.specs.declared.Swept.the-variants.{Struck, Emptied}
+use Rattle.rounds.specs.Rounds.{rulesAgain, Settled, afterRounds}
+use Rattle.rounds.proofs.rounds.Kinds as rounds-kinds
+use Rattle.rounds.proofs.rounds.Reads as rounds
+
+-- the result, and the cells unless one was emptied
+abbrev pub Fixed : Swept → Swept → List ℕ → List ℕ → Type 0
+Fixed q r u w = (q ≡ r) × ((q ≡ Emptied → ⊥) → u ≡ w)
+
+module _ {v : ℕ} {rs : List Rule} {t : List ℕ} where
+  -- what the rules leave when they strike nothing more is the largest such table inside t
+  settled-determined : {u w : List ℕ} {m n : ℕ} → Settled v rs t u m → Settled v rs t w n → (u ≡ w) × (m ≡ n)
+  settled-determined {u} {w} k l =
+      let e : u ≡ w = inside-antisym (k .kept .table) (l .kept .table) (l .kept .keeps u (k .kept .inside) (k .idle)) (k .kept .keeps w (l .kept .inside) (l .idle)) in
+      (e, kept-determined e (k .kept) (l .kept))
+
+  settled-unclashed : {u : List ℕ} {m : ℕ} → Settled v rs t u m → Clash v rs t → ⊥
+  settled-unclashed {u} k f = T-not (emptied u) (k .filled) (f u (k .kept .table) (k .kept .inside) (k .idle))
+
+one-outcome : (v : ℕ) (rs : List Rule) (t u w : List ℕ) (q r : Swept) → afterRounds v rs t u q → afterRounds v rs t w r → Fixed q r u w
+one-outcome v rs t u w (Struck m) (Struck n) k l = let d = settled-determined k l in (ap Struck (d .1), λ z. d .0)
+one-outcome v rs t u w (Struck m) Emptied k f = absurd (settled-unclashed k f)
+one-outcome v rs t u w Emptied (Struck n) f l = absurd (settled-unclashed l f)
+one-outcome v rs t u w Emptied Emptied f g = (refl, λ z. absurd (z refl))
+
+pub rounds-determined : OfTwo 2 rounds-kinds.ps rounds-kinds.r rounds.Asked rounds.Learnt (λ κs x y d e. Fixed x y (d .1 .1 .1 .0 .now) (e .1 .1 .1 .0 .now))
+rounds-determined κs a asked x y d e p q =
+    one-outcome (a .0) (rulesAgain (a .0) (asked .1 .0)) (a .1 .1 .1 .0 .now) (d .1 .1 .1 .0 .now) (e .1 .1 .1 .0 .now) x y (p (asked .1 .0) (asked .1 .1)) (q (asked .1 .0) (asked .1 .1))

@@ -1,0 +1,3 @@
+-- The laws behind the rounds.
+pub mod Repeating
+pub mod Determined

@@ -1,0 +1,2 @@
+-- What rounds of the rules promise.
+pub mod Rounds

@@ -10,6 +10,7 @@ use Rattle.rules.specs.Tables.{Table, Inside, emptied}
 use Rattle.rules.specs.Closing.{closing}
 use Rattle.rules.specs.Search.{Order, places}
 use Rattle.passes.specs.Passes.{Idles, Ready}
+use Rattle.orders.specs.Orders.{pick}
 use Rattle.sweeps.specs.declared.Swept.{Swept}
 use Rattle.sweeps.specs.declared.Swept.the-variants.{Struck, Emptied}
 use Rattle.closing.specs.Closes.{rulesOnce, Closes, closes}
@@ -17,7 +18,7 @@ use Rattle.closing.proofs.Closings.{steady-inside}
 use Rattle.choosing.specs.declared.pairs.Pair.{Pair}
 use Rattle.choosing.specs.declared.choices.Next.{Next}
 use Rattle.choosing.specs.Pairs.{pairCell, IsPair}
-use Rattle.choosing.specs.Choices.{pick, Bytes, NextOpen}
+use Rattle.choosing.specs.Choices.{Bytes, NextOpen}
 use Rattle.choosing.specs.Standings.{Due}
 use Rattle.choosing.specs.Tries.{retreats, Tried}
 use Rattle.choosing.proofs.Walking.{pair-place, pair-within, place-cell}

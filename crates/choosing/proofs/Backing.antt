@@ -9,10 +9,11 @@ use lib.ListN.{length, getD, set, length-set}
 use lib.Seq.{getD-set-same, getD-set-other}
 use Rattle.rules.specs.Relations.{setLimit}
 use Rattle.rules.specs.Search.{Order}
+use Rattle.orders.specs.Orders.{unpicked}
+use Rattle.orders.proofs.Picking.{unpicked-small}
 use Rattle.choosing.specs.declared.pairs.Pair.{Pair}
 use Rattle.choosing.specs.Pairs.{IsPair}
-use Rattle.choosing.specs.Choices.{unpicked, Bytes, Back}
-use Rattle.choosing.proofs.Picking.{unpicked-small}
+use Rattle.choosing.specs.Choices.{Bytes, Back}
 use Rattle.choosing.proofs.Stepping.{bytes-set}
 use Rattle.choosing.proofs.Walking.{pair-within}
 

@@ -1,5 +1,4 @@
 -- The laws behind the functions of this crate.
-pub mod Picking
 pub mod Walking
 pub mod Stepping
 pub mod Rebuilding

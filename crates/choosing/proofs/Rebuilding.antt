@@ -7,9 +7,10 @@ use native.Mathlib.Numerals.{add-one}
 use native.Mathlib.Omega.{arith}
 use lib.ListN.{length, getD, set, length-set}
 use Rattle.rules.specs.Search.{places}
+use Rattle.orders.specs.Orders.{pick}
 use Rattle.choosing.specs.declared.pairs.Pair.{Pair}
 use Rattle.choosing.specs.Pairs.{pairCell, IsPair}
-use Rattle.choosing.specs.Choices.{pick, rebuilt}
+use Rattle.choosing.specs.Choices.{rebuilt}
 use Rattle.choosing.proofs.Walking.{pair-place, pair-open}
 
 module _ (v : ℕ) (ord cs t : List ℕ) where

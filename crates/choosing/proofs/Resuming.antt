@@ -11,8 +11,8 @@ use Rattle.rules.specs.Relations.{has}
 use Rattle.rules.specs.Tables.{emptied}
 use Rattle.rules.specs.Search.{End, found, none, later, proceed, orElse, attempt, choose, places, tries}
 use Rattle.rules.proofs.Tests.{true-T}
+use Rattle.orders.specs.Orders.{still, pick, unpicked}
 use Rattle.choosing.specs.Pairs.{pairCell}
-use Rattle.choosing.specs.Choices.{still, pick, unpicked}
 use Rattle.choosing.specs.Standings.{elseEnd, stood, trying, resume}
 
 -- ---- ends

@@ -18,10 +18,11 @@ use Rattle.rules.proofs.Inside.{inside-refl, inside-trans}
 use Rattle.rules.proofs.Strikes.{set-each}
 use Rattle.rules.proofs.Narrowing.{narrowed-table, narrowed-inside, narrowed-at}
 use Rattle.rules.proofs.Largest.{closing-largest}
+use Rattle.orders.specs.Orders.{still, pick}
+use Rattle.orders.proofs.Picking.{pick-still, still-has, still-none}
 use Rattle.choosing.specs.Pairs.{pairCell}
-use Rattle.choosing.specs.Choices.{still, pick, rebuilt}
+use Rattle.choosing.specs.Choices.{rebuilt}
 use Rattle.choosing.specs.Standings.{stood, Whole, ChoicesStand}
-use Rattle.choosing.proofs.Picking.{pick-still, still-has, still-none}
 use Rattle.choosing.proofs.Walking.{place-cell}
 
 -- ---- a cell narrowed in a table and in its largest closed table

@@ -22,14 +22,15 @@ use Rattle.rules.proofs.Arrangements.{One, one-has}
 use Rattle.rules.proofs.Largest.{closing-largest, largest-unique}
 use Rattle.rules.proofs.FirstPair.{choose-skip, choose-first}
 use Rattle.passes.specs.Passes.{Filled}
+use Rattle.orders.specs.Orders.{still, pick, unpicked}
+use Rattle.orders.proofs.Picking.{still-less, none-still}
 use Rattle.choosing.specs.declared.pairs.Pair.{Pair}
 use Rattle.choosing.specs.declared.choices.Next.{Next}
 use Rattle.choosing.specs.declared.choices.Next.the-variants.{Try, Found, Spent}
 use Rattle.choosing.specs.Pairs.{pairCell}
-use Rattle.choosing.specs.Choices.{still, pick, unpicked, Passed, Several, NextOpen}
+use Rattle.choosing.specs.Choices.{Passed, Several, NextOpen}
 use Rattle.choosing.specs.Standings.{elseEnd, stood, trying, resume, ahead, ChoiceMade, Whole, ChoicesStand, Due, due}
 use Rattle.choosing.specs.Tries.{retreats, Tried}
-use Rattle.choosing.proofs.Picking.{still-less, none-still}
 use Rattle.choosing.proofs.Walking.{pair-within, place-cell}
 use Rattle.choosing.proofs.Standing.{largest-self, inside-set, set-inside, Choice, choice-in, choice-at, table-narrowed, inside-narrowed, closes-next, rebuilt-at, inside-at, rebuilt-inside}
 use Rattle.choosing.proofs.Resuming.{later-zero, tries-later, then-none, attempt-next, attempt-still, proceed-none, proceed-on, drop-all, choose-none, stood-same, resume-same, resume-more, resume-later, resume-found, resume-back, resume-spent}

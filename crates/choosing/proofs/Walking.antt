@@ -167,7 +167,7 @@ module _ {v : ℕ} {at : Pair} (h : IsPair v at) where
       let b : before v v ≡ before v (at .p) + (v - suc (at .p)) = ap (before v) s in
       omega (arith, places-length v)
 
-  -- past the last pair its number is how many there are; before that it is unpicked
+  -- past the last pair its number is how many there are; before that it is less
   pub pair-end : (at .q < v → ⊥) → at .index ≡ length (places v)
   pair-end f = ⊎-elim past (λ l. absurd (f l)) (eq-or-lt-of-le (h .most))
 

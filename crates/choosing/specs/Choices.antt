@@ -1,29 +1,15 @@
--- Choices of the search, over any order: which relations of a set are still to be tried, and the bytes that remember them. Assumes nothing.
+-- Choices of the search, over any order: the bytes that remember which relations of a set are still to be tried. Assumes nothing.
 use mathlib.Core.Path.{_≡_}
-use mathlib.Core.Bool.{true, false}
-use mathlib.Core.List.{List, [], _∷_}
-use Prim.Native.Nat.{ℕ, zero, suc, _^_, _≤_, _<_}
+use mathlib.Core.List.{List}
+use Prim.Native.Nat.{ℕ, zero, suc, _≤_, _<_}
 use lib.ListN.{length, getD, set}
-use Rattle.rules.specs.Relations.{setLimit, has, meet, complement, size}
+use Rattle.rules.specs.Relations.{setLimit, size}
 use Rattle.rules.specs.Search.{places}
+use Rattle.orders.specs.Orders.{pick, unpicked}
 use Rattle.choosing.specs.declared.pairs.Pair.{Pair}
 use Rattle.choosing.specs.declared.choices.Next.{Next}
 use Rattle.choosing.specs.declared.choices.Next.the-variants.{Try, Found, Spent}
 use Rattle.choosing.specs.Pairs.{pairCell, IsPair}
-
--- the relations of the set c, as the order has them
-unfoldable pub still : List ℕ → ℕ → List ℕ
-still [] c = []
-still (r ∷ rs) c = elim (has c r) [ true ↦ r ∷ still rs c | false ↦ still rs c ]
-
--- the relation of the set c that comes first in the order, as a set of one; nothing of an empty set
-unfoldable pub pick : List ℕ → ℕ → ℕ
-pick [] c = 0
-pick (r ∷ rs) c = elim (has c r) [ true ↦ 2 ^ r | false ↦ pick rs c ]
-
--- the set c without the relation that `pick` gives
-abbrev pub unpicked : List ℕ → ℕ → ℕ
-unpicked ord c = meet c (complement (pick ord c))
 
 -- a byte for each pair, each a set
 pub record Bytes (v : ℕ) (cs : List ℕ) : Type 0 where

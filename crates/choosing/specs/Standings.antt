@@ -10,11 +10,12 @@ use Rattle.rules.specs.Closed.{Closed, Largest}
 use Rattle.rules.specs.Closing.{closing}
 use Rattle.rules.specs.Search.{End, found, none, later, attempt, choose, places}
 use Rattle.passes.specs.Passes.{Filled}
+use Rattle.orders.specs.Orders.{still, pick, unpicked}
 use Rattle.choosing.specs.declared.pairs.Pair.{Pair}
 use Rattle.choosing.specs.declared.choices.Next.{Next}
 use Rattle.choosing.specs.declared.choices.Next.the-variants.{Try, Found, Spent}
 use Rattle.choosing.specs.Pairs.{pairCell, IsPair}
-use Rattle.choosing.specs.Choices.{still, pick, unpicked, Bytes}
+use Rattle.choosing.specs.Choices.{Bytes}
 
 -- the end e where the first end was none, with the tries of both
 abbrev pub elseEnd : End → End → End

@@ -2,12 +2,11 @@
 ghost use mathlib.Core.Path.{_≡_};
 ghost use Prim.Native.Nat.{_<_, _≤_};
 ghost use lib.ListN.{length};
-ghost use Rattle.rules.specs.Relations.{setLimit};
 ghost use Rattle.rules.specs.Descriptions.{mostBoards};
 ghost use Rattle.rules.specs.Search.{Order, places};
 ghost use Rattle.passes.specs.Passes.{Ready};
 ghost use Rattle.choosing.specs.Pairs.{IsPair};
-ghost use Rattle.choosing.specs.Choices.{pick, unpicked, Bytes, NextOpen, LastOpen, rebuilt};
+ghost use Rattle.choosing.specs.Choices.{Bytes, NextOpen, LastOpen, rebuilt};
 use crate::pairs::Pair;
 use crate::pairs::after;
 use crate::pairs::before;
@@ -18,29 +17,6 @@ pub(crate) enum Next {
     Try(Pair),
     Found,
     Spent,
-}
-
-// Picks the relation of a set that comes first in the order, as a set of one; nothing of an empty set.
-pub(crate) fn pick(order: &[u8], set: u8) -> u8
-    requires { ⌜ Order (now order) × (set < setLimit) ⌝ }
-    ensures { λ r. ⌜ r ≡ pick (now (order .entry)) set ⌝ }
-{
-    for i in 0..order.len() {
-        let one = relations::single(order[i]);
-        if relations::meet(set, one) != 0 {
-            return one;
-        }
-    }
-    0
-}
-
-// Drops from a set the relation that `pick` gives, which is the one that the search would try next.
-fn unpicked(order: &[u8], set: u8) -> u8
-    requires { ⌜ Order (now order) × (set < setLimit) ⌝ }
-    ensures { λ r. ⌜ r ≡ unpicked (now (order .entry)) set ⌝ }
-{
-    let failed = pick(order, set);
-    relations::meet(set, relations::complement(failed))
 }
 
 // Finds the first pair, from a pair on, whose cell has several relations. The byte of each pair on the way becomes what its cell holds.
@@ -70,7 +46,7 @@ pub(crate) fn last_open(v: usize, order: &[u8], from: Pair, choices: &mut [u8]) 
     let mut at = from;
     loop {
         let i = at.index;
-        let left = unpicked(order, choices[i]);
+        let left = orders::unpicked(order, choices[i]);
         choices[i] = left;
         if left != 0 {
             return Next::Try(at);
@@ -99,7 +75,7 @@ pub(crate) fn rebuild(
     while at.index < count {
         let k = v * at.p + at.q;
         let i = at.index;
-        cells[k] = pick(order, choices[i]);
+        cells[k] = orders::pick(order, choices[i]);
         at = after(v, at);
     }
 }

@@ -9,7 +9,6 @@ ghost use Rattle.choosing.specs.Tries.{Failed, retreats, Under, Trying, 
 use crate::choices::Next;
 use crate::choices::last_open;
 use crate::choices::next_open;
-use crate::choices::pick;
 use crate::choices::rebuild;
 use crate::pairs::Pair;
 use crate::pairs::after;
@@ -60,7 +59,7 @@ fn attempt(
     let v = h.boards;
     let k = v * at.p + at.q;
     let i = at.index;
-    cells[k] = pick(order, choices[i]);
+    cells[k] = orders::pick(order, choices[i]);
     match closing::close_again(h, words, cells) {
         Swept::Struck(_) => next_open(v, after(v, at), cells, choices),
         Swept::Emptied => retreat(v, order, first, at, choices, cells),

@@ -1,22 +1,23 @@
 -- `unpicked` meets its contract: what is picked is a set, and what it leaves of the set is as defined. Assumes nothing.
 use mathlib.Core.Path.{sym, ap, _∙_, subst}
 use Prim.Native.Nat.{ℕ, _<_}
+use native.Mathlib.Omega.{arith}
 use Rattle.rules.specs.Relations.{setLimit, meet, complement}
-use Rattle.choosing.proofs.Picking.{pick-small, complement-small}
+use Rattle.orders.proofs.Picking.{pick-small, complement-small}
 use borrow.Author.Needs.{needs}
-use Rattle.choosing.proofs.choices.unpicked.Statement.{statement}
-use Rattle.choosing.proofs.choices.unpicked.Tie as tie
+use Rattle.orders.proofs.unpicked.Statement.{statement}
+use Rattle.orders.proofs.unpicked.Tie as tie
 
 pick-requires : tie.Need-pick-requires
 pick-requires c κs = search needs
 
 complement-requires : tie.Need-complement-requires
 complement-requires c κs =
-    let start = c .before .before in subst (λ (x : ℕ). x < setLimit) (sym (c .pick .ensures)) (pick-small (start .pre .0) (start .args .set) (start .pre .1))
+    let start = c .before .before in omega (arith, pick-small (start .pre .0) (start .args .set) (start .pre .1))
 
 meet-requires : tie.Need-meet-requires
 meet-requires c κs =
-    (c .before .before .before .pre .1, subst (λ (x : ℕ). x < setLimit) (sym (c .complement .ensures)) (complement-small (c .before .pick .result)))
+    (c .before .before .before .pre .1, subst (λ (x : ℕ). x < setLimit) (sym (c .complement .ensures)) (complement-small _))
 
 returns : tie.Need-returns
 returns c =

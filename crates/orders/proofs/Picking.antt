@@ -17,7 +17,7 @@ use Rattle.rules.proofs.Tests.{clash, T-true, T-false, true-T, T-ext, T-and-lef
 use Rattle.rules.proofs.Digits.{has-zero, has-single, single-has, has-small}
 use Rattle.rules.proofs.Sets.{setOf-small, meet-small, meet-left, meet-right, meet-largest, lies-single, single-lies, single-small, some-member, complement-in, complement-out, unshared-lacks, shared-has}
 use Rattle.rules.proofs.Members.{All, each-of-out, member-at}
-use Rattle.choosing.specs.Choices.{still, pick, unpicked}
+use Rattle.orders.specs.Orders.{still, pick, unpicked}
 
 -- ---- one relation of the order
 
@@ -183,12 +183,12 @@ complement-small x = setOf-small (λ r. not (has x r))
 pub unpicked-small : {ord : List ℕ} → Order ord → (c : ℕ) → c < setLimit → unpicked ord c < setLimit
 unpicked-small {ord} o c h = meet-small c (complement (pick ord c))
 
--- ---- a walk along the order: what is picked is picked from the pairCell i on
+-- ---- a walk along the order: what is picked is picked from the place i on
 
 abbrev pub From : List ℕ → ℕ → ℕ → Type 0
-From ord c i = (i ≤ length ord) × (pick (drop i ord) c ≡ pick ord c)
+From ord c i = pick (drop i ord) c ≡ pick ord c
 
-module _ (ord : List ℕ) (c i : ℕ) (h : i < length ord) (from : pick (drop i ord) c ≡ pick ord c) where
+module _ (ord : List ℕ) (c i : ℕ) (h : i < length ord) (from : From ord c i) where
   here : drop i ord ≡ getD ord i 0 ∷ drop (suc i) ord
   here = drop-cons ord i 0 h
 
@@ -198,16 +198,14 @@ module _ (ord : List ℕ) (c i : ℕ) (h : i < length ord) (from : pick (drop i 
       ∙ sym (ap (λ (l : List ℕ). pick l c) here) ∙ from
 
   pub passed : {z : ℕ} → Order ord → z ≡ meet c (2 ^ getD ord i 0) → z ≡ 0 → From ord c (i + 1)
-  passed o e n = (
-    omega arith,
-    ap (λ (k : ℕ). pick (drop k ord) c) (add-one i)
-        ∙ sym (pick-out (getD ord i 0) (drop (suc i) ord) c (lacked (unshared-lacks (getD ord i 0) c (order-small o i h) (sym e ∙ n))))
-        ∙ sym (ap (λ (l : List ℕ). pick l c) here) ∙ from,
-  )
+  passed o e n =
+      ap (λ (k : ℕ). pick (drop k ord) c) (add-one i)
+      ∙ sym (pick-out (getD ord i 0) (drop (suc i) ord) c (lacked (unshared-lacks (getD ord i 0) c (order-small o i h) (sym e ∙ n))))
+      ∙ sym (ap (λ (l : List ℕ). pick l c) here) ∙ from
     where
       lacked : T (not (has c (getD ord i 0))) → has c (getD ord i 0) ≡ false
       lacked t = T-false {b = has c (getD ord i 0)} (T-not (has c (getD ord i 0)) t)
 
-pub picked-none : (ord : List ℕ) (c i : ℕ) → length ord ≤ i → pick (drop i ord) c ≡ pick ord c → 0 ≡ pick ord c
+pub picked-none : (ord : List ℕ) (c i : ℕ) → length ord ≤ i → From ord c i → 0 ≡ pick ord c
 unfolding pick
 picked-none ord c i h from = sym (ap (λ (l : List ℕ). pick l c) (drop-of-length-le ord {i = i} h)) ∙ from

@@ -1,10 +1,7 @@
 // Closing under a description that was read: first the rules that need no second look (1, 4 and 5), then rounds of the others.
 ghost use mathlib.Core.Path.{_≡_};
 ghost use lib.ListN.{length};
-ghost use Rattle.rules.specs.Closing.{rules5};
 ghost use Rattle.rules.specs.Calls.{close};
-ghost use Rattle.passes.specs.Passes.{Ready, Once};
-ghost use Rattle.kinds.specs.Sections.{HasKinds, WithKinds};
 ghost use Rattle.answers.specs.Answers.{outcome};
 ghost use Rattle.closing.specs.Closes.{Admitted, OnceUnder, ClosesUnder, Steady};
 use answers::Answer;
@@ -14,26 +11,7 @@ use answers::refuse;
 use answers::rooms::table_room;
 use answers::succeed;
 use headers::Header;
-use kinds::kind_at;
-use once::rule5;
 use sweeps::Swept;
-
-// Rule 5 of every kind line: its ways lie below the panel and beside each other.
-fn rules5(v: usize, count: usize, words: &[u16], cells: &mut [u8]) -> u32
-    requires { ⌜ Ready v (now cells) × HasKinds v count (now words) ⌝ }
-    ensures { λ n. ⌜ WithKinds v count (now (words .entry)) (λ ks. Once v (rules5 ks) (now (cells .entry)) 0 (now (cells .exit)) n) ⌝ }
-{
-    let mut struck = 0;
-    let mut at = 0;
-    let mut left = count;
-    while 0 < left {
-        let line = kind_at(words, at);
-        struck += rule5(v, words, line, cells);
-        at = line.end;
-        left -= 1;
-    }
-    struck
-}
 
 // Follows rules 1, 4 and 5, which need no second look, and says how many relations they struck.
 fn strike_once(h: Header, words: &[u16], cells: &mut [u8]) -> u32
@@ -44,7 +22,7 @@ fn strike_once(h: Header, words: &[u16], cells: &mut [u8]) -> u32
     let kinds_at = h.kinds.at;
     let by_boards = once::rules1(v, cells);
     let by_lines = once::rules4(v, h.lines.count, &words[HEADER_WORDS..kinds_at], cells);
-    let by_kinds = rules5(v, h.kinds.count, &words[kinds_at..], cells);
+    let by_kinds = ways::rules5(v, h.kinds.count, &words[kinds_at..], cells);
     let struck = by_boards + by_lines + by_kinds;
     struck
 }

@@ -1,4 +1,4 @@
--- The laws behind the functions of this crate.
-pub mod Fronts
+-- The laws behind the functions of this crate, and of walks along lines above it.
 pub mod Lines
+pub mod Passing
 pub mod Determined

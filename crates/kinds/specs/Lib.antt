@@ -1,4 +1,3 @@
--- What the functions of this crate promise, and kind lines as the code above it has them.
-pub mod Found
+-- Kind lines as the code above this crate has them, and the lines that fill a section.
 pub mod Lines
 pub mod Sections

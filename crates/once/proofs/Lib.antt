@@ -1,5 +1,4 @@
--- The laws behind the functions of this crate, and of walks along lines above it.
+-- The laws behind the functions of this crate.
 pub mod Selves
-pub mod Spreading
-pub mod Passing
+pub mod Ruling
 pub mod Determined

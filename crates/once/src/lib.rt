@@ -1,12 +1,7 @@
-// The rules whose bounds stay, whatever the table, so that they strike once: rule 1, rule 4, and rule 5 of one kind line.
-ghost use mathlib.Core.Path.{_≡_};
-ghost use Rattle.rules.specs.Closing.{rules1, rules4, rule5};
+// Rules 1 and 4: their bounds stay, whatever the table, so that they strike once.
+ghost use Rattle.rules.specs.Closing.{rules1, rules4};
 ghost use Rattle.passes.specs.Passes.{Ready, Once};
-ghost use Rattle.kinds.specs.Lines.{lineAt, StandsIn};
 ghost use Rattle.kinds.specs.Sections.{HasLines, WithLines};
-ghost use Rattle.once.specs.Ways.{apart};
-use kinds::KindLine;
-use kinds::way;
 use lines::RelationFound;
 use lines::relation_line;
 
@@ -39,38 +34,6 @@ pub fn rules4(v: usize, count: usize, words: &[u16], cells: &mut [u8]) -> u32
         struck += tables::narrow(cells, k, line.allowed);
         at = words.len() - rest;
         left -= 1;
-    }
-    struck
-}
-
-// What rule 5 allows two ways in the places i and j: side, or anything for one and the same place.
-fn apart(i: usize, j: usize) -> u8
-    ensures { λ b. ⌜ b ≡ apart i j ⌝ }
-{
-    if i == j {
-        relations::FULL
-    } else {
-        relations::S
-    }
-}
-
-// Rule 5 of one kind line: its ways lie below the panel and beside each other.
-pub fn rule5(v: usize, words: &[u16], line: KindLine, cells: &mut [u8]) -> u32
-    requires { ⌜ Ready v (now cells) × StandsIn v (now words) line ⌝ }
-    ensures { λ n. ⌜ Once v (rule5 (lineAt (now (words .entry)) line)) (now (cells .entry)) 0 (now (cells .exit)) n ⌝ }
-{
-    let first = line.first;
-    let end = line.end;
-    let ways = &words[first..end];
-    let mut struck = 0;
-    for i in 0..ways.len() {
-        let y = way(ways, i);
-        let k = v * line.p + y;
-        struck += tables::narrow(cells, k, relations::A);
-        for j in 0..ways.len() {
-            let l = v * y + way(ways, j);
-            struck += tables::narrow(cells, l, apart(i, j));
-        }
     }
     struck
 }

@@ -4,7 +4,7 @@ ghost use Rattle.rules.specs.Descriptions.{section};
 ghost use Rattle.sheet.specs.Found.{lineOf, lineFound, sectionFound, endFound};
 use answers::refusals::Refusal;
 use answers::refusals::UNFIT;
-use kinds::KindFound;
+use kind_lines::KindFound;
 use lines::RelationFound;
 
 // The two sorts of line, each with a section of its own.
@@ -34,7 +34,7 @@ fn read_line(sort: Sort, v: usize, words: &[u16]) -> LineFound
             RelationFound::Line(_, rest) => LineFound::Rest(rest),
             RelationFound::Refused(r) => LineFound::Refused(r),
         },
-        Sort::Kinds => match kinds::kind_line(v, words) {
+        Sort::Kinds => match kind_lines::kind_line(v, words) {
             KindFound::Line(rest) => LineFound::Rest(rest),
             KindFound::Refused(r) => LineFound::Refused(r),
         },

@@ -8,8 +8,8 @@ use Rattle.rules.specs.Descriptions.{relationLine}
 use Rattle.rules.specs.Closing.{rule4, rules4}
 use Rattle.passes.specs.Passes.{Ready, Once}
 use Rattle.passes.proofs.Passes.{kept-few, place-few, ready-place, ready-kept}
-use Rattle.once.proofs.Passing.{once-strikes, Along, along-start, along-kept, along-end}
-use Rattle.once.proofs.Passing.{ruling, Ruled, relation-ruled, relation-room, relation-next, relation-none, rule-strike}
+use Rattle.kinds.proofs.Passing.{once-strikes, Along, along-start, along-kept, along-end}
+use Rattle.once.proofs.Ruling.{ruling, Ruled, relation-ruled, relation-room, relation-next, relation-none, rule-strike}
 use Rattle.once.proofs.rules4.Statement.{statement}
 use Rattle.once.proofs.rules4.Tie as tie
 

@@ -5,7 +5,7 @@ use Rattle.rules.specs.Descriptions.{kindLine}
 use Rattle.rules.specs.Closing.{boardsOf, rule6, rules6}
 use Rattle.passes.specs.Passes.{Pass, Quiet}
 use Rattle.passes.proofs.Passes.{kept-few}
-use Rattle.once.proofs.Passing.{pass-strikes, Along, along-start, along-kept, along-end, kind-there, kind-ready, kind-next}
+use Rattle.kinds.proofs.Passing.{pass-strikes, Along, along-start, along-kept, along-end, kind-there, kind-ready, kind-next}
 use Rattle.rounds.proofs.walks.rules6.Statement.{statement}
 use Rattle.rounds.proofs.walks.rules6.Tie as tie
 

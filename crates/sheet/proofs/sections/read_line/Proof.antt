@@ -2,7 +2,7 @@
 use borrow.Author.Needs.{needs}
 use mathlib.Core.Path.{sym, _∙_}
 use Rattle.lines.proofs.Fronts.{relation-line-out, relation-refused-out}
-use Rattle.kinds.proofs.Fronts.{kind-line-out, kind-refused-out}
+use Rattle.kind_lines.proofs.Fronts.{kind-line-out, kind-refused-out}
 use Rattle.sheet.specs.declared.sections.Sort.the-variants.{Relations, Kinds}
 use Rattle.sheet.proofs.Fronts.{rest-found, refused-found}
 use Rattle.sheet.proofs.sections.read_line.Statement.{statement}

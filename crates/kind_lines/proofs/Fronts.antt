@@ -13,8 +13,8 @@ use Rattle.rules.proofs.Lines.{OnPanel, kind-read, after-line, boardsOnly-in, b
 use Rattle.answers.specs.declared.refusals.Refusal.{Refusal}
 use Rattle.answers.specs.Answers.{refusal}
 use Rattle.lines.proofs.Fronts.{part}
-use Rattle.kinds.specs.declared.KindFound.the-variants as kind
-use Rattle.kinds.specs.Found.{kindFound}
+use Rattle.kind_lines.specs.declared.KindFound.the-variants as kind
+use Rattle.kind_lines.specs.Found.{kindFound}
 
 -- words that are boards, each of them, or not
 pub some-no-board : (v : ℕ) (ws : List ℕ) (i : ℕ) → i < length ws → v ≤ getD ws i 0 → false ≡ boardsOnly v ws

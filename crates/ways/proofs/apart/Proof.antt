@@ -1,8 +1,8 @@
 -- `apart` meets its contract: its test is that of the two places. Assumes nothing.
 use borrow.Author.Tests.{eq-eqb, ne-eqb}
 use Rattle.rules.specs.Relations.{relations, setTo, setOf, full}
-use Rattle.once.proofs.apart.Statement.{statement}
-use Rattle.once.proofs.apart.Tie as tie
+use Rattle.ways.proofs.apart.Statement.{statement}
+use Rattle.ways.proofs.apart.Tie as tie
 
 returns : tie.Need-returns
 unfolding relations setTo setOf full

@@ -4,9 +4,9 @@ use Prim.Native.Nat.{ℕ, _-_, _≤_, _<_}
 use native.Mathlib.Omega.{arith}
 use borrow.Author.Count.{below-more}
 use lib.ListN.{length, getD}
-use Rattle.kinds.proofs.Fronts.{some-no-board, all-boards}
-use Rattle.kinds.proofs.boards_only.Statement.{statement}
-use Rattle.kinds.proofs.boards_only.Tie as tie
+use Rattle.kind_lines.proofs.Fronts.{some-no-board, all-boards}
+use Rattle.kind_lines.proofs.boards_only.Statement.{statement}
+use Rattle.kind_lines.proofs.boards_only.Tie as tie
 
 abbrev Inv-loop : tie.InvT-loop
 Inv-loop v ways i₀ i = (i ≤ length ways) × ((k : ℕ) → k < i → getD ways k 0 < v)

@@ -15,7 +15,7 @@ use Rattle.rules.proofs.Members.{all-one, one-all, all-append, append-left, app
 use Rattle.rules.proofs.Rules.{all-only, only-all, all-ways, ways-all, unless-in, unless-out}
 use Rattle.passes.specs.Passes.{Idles, Narrowed, Once}
 use Rattle.passes.proofs.Passes.{kept-as, once-strike, once-then, once-next, once-whole}
-use Rattle.once.specs.Ways.{apart}
+use Rattle.ways.specs.Ways.{apart}
 
 -- what two places allow is a set
 pub apart-small : (i j : ℕ) → apart i j < setLimit

@@ -12,9 +12,9 @@ use Rattle.rules.specs.Tables.{upTo}
 use Rattle.passes.specs.Passes.{Ready, Once}
 use Rattle.passes.proofs.Passes.{kept-few, once-start, place-few, ready-place, ready-kept}
 use Rattle.kinds.specs.Lines.{lineAt}
-use Rattle.once.proofs.Spreading.{apart-small, under, beside, around, beside-next, under-first, around-next, around-all}
-use Rattle.once.proofs.rule5.Statement.{statement}
-use Rattle.once.proofs.rule5.Tie as tie
+use Rattle.ways.proofs.Spreading.{apart-small, under, beside, around, beside-next, under-first, around-next, around-all}
+use Rattle.ways.proofs.rule5.Statement.{statement}
+use Rattle.ways.proofs.rule5.Tie as tie
 
 abbrev Inv-loop2 : tie.InvT-loop2
 Inv-loop2 v words line cells₀ first end ways struck₀ i y k j₀ i-end j-end cells struck j =

@@ -5,10 +5,10 @@ use mathlib.Core.Logic.{⊎-elim}
 use lib.ListN.{getD}
 use Rattle.rules.proofs.Tests.{tested}
 use Rattle.rules.proofs.Lines.{kind-short, kind-misfits, kind-no-boards}
-use Rattle.kinds.specs.Found.{kindFound}
-use Rattle.kinds.proofs.Fronts.{ways-denied, ways-granted, kind-line-found}
-use Rattle.kinds.proofs.kind_line.Statement.{statement}
-use Rattle.kinds.proofs.kind_line.Tie as tie
+use Rattle.kind_lines.specs.Found.{kindFound}
+use Rattle.kind_lines.proofs.Fronts.{ways-denied, ways-granted, kind-line-found}
+use Rattle.kind_lines.proofs.kind_line.Statement.{statement}
+use Rattle.kind_lines.proofs.kind_line.Tie as tie
 
 returns : tie.Need-returns
 returns c =

@@ -2,8 +2,8 @@
 use lib.ListN.{length}
 use Rattle.rules.specs.Descriptions.{KindLine, Reading, good, refused, Front}
 use Rattle.answers.specs.Answers.{refusal}
-use Rattle.kinds.specs.declared.KindFound.{KindFound}
-use Rattle.kinds.specs.declared.KindFound.the-variants as kind
+use Rattle.kind_lines.specs.declared.KindFound.{KindFound}
+use Rattle.kind_lines.specs.declared.KindFound.the-variants as kind
 
 -- the number of words after a kind line, which is found by its place, or the refusal
 abbrev pub kindFound : Reading (Front KindLine) → KindFound

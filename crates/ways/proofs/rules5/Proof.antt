@@ -5,9 +5,9 @@ use Rattle.rules.specs.Descriptions.{kindLine}
 use Rattle.rules.specs.Closing.{rule5, rules5}
 use Rattle.passes.specs.Passes.{Once}
 use Rattle.passes.proofs.Passes.{kept-few}
-use Rattle.once.proofs.Passing.{once-strikes, Along, along-start, along-kept, along-end, kind-there, kind-ready, kind-next}
-use Rattle.closing.proofs.rules5.Statement.{statement}
-use Rattle.closing.proofs.rules5.Tie as tie
+use Rattle.kinds.proofs.Passing.{once-strikes, Along, along-start, along-kept, along-end, kind-there, kind-ready, kind-next}
+use Rattle.ways.proofs.rules5.Statement.{statement}
+use Rattle.ways.proofs.rules5.Tie as tie
 
 abbrev Inv-loop : tie.InvT-loop
 Inv-loop v count words cells₀ struck₀ at₀ left₀ cells struck at left =

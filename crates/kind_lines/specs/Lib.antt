@@ -1,0 +1,2 @@
+-- What testing a kind line promises.
+pub mod Found

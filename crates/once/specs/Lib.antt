@@ -1,2 +1,0 @@
--- What the functions of this crate promise.
-pub mod Ways

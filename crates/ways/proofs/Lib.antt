@@ -1,0 +1,3 @@
+-- The laws behind rule 5.
+pub mod Spreading
+pub mod Determined

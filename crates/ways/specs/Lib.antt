@@ -1,0 +1,2 @@
+-- What rule 5 allows two ways.
+pub mod Ways

@@ -246,3 +246,35 @@ fn refused_orders() -> Vec<(&'static str, Vec<u16>)> {
         ("short-kind-line-with-high-way", vec![2, 0, 1, 6, 6, 10, 0, 5, 2, 9]),
     ]
 }
+
+/// The longest description with one or two words changed: each refusal at its first and last place in it,
+/// and several faults, of which the first in order decides.
+pub fn refused_longest() -> Vec<(&'static str, Vec<u16>)> {
+    let changed = |changes: &[(usize, u16)]| {
+        let mut words = longest().words();
+        for &(at, word) in changes {
+            words[at] = word;
+        }
+        words
+    };
+    vec![
+        ("seventeen-boards", changed(&[(0, 17)])),
+        ("kind-lines-17", changed(&[(2, 17)])),
+        ("relation-offset-7", changed(&[(3, 7)])),
+        ("total-too-small", changed(&[(5, 2_485)])),
+        ("first-length-16", changed(&[(8, 16)])),
+        ("nine-ways-in-last-line", changed(&[(2_477, 9)])),
+        ("last-way-left-over", changed(&[(2_477, 7)])),
+        ("first-board-too-high", changed(&[(6, 16)])),
+        ("last-way-too-high", changed(&[(2_485, 16)])),
+        ("first-code-8", changed(&[(9, 8)])),
+        ("last-code-8", changed(&[(2_309, 8)])),
+        ("last-operand-missing", changed(&[(2_309, 6)])),
+        ("last-code-too-many", changed(&[(2_301, 6)])),
+        ("5-in-first-line-before-3-in-last", changed(&[(9, 8), (2_477, 9)])),
+        ("3-before-4-in-first-line", changed(&[(8, 16), (6, 16)])),
+        ("4-before-5-in-first-line", changed(&[(7, 16), (9, 8)])),
+        ("2-before-4-in-first-line", changed(&[(5, 2_485), (6, 16)])),
+        ("1-before-2", changed(&[(0, 17), (5, 2_485)])),
+    ]
+}

@@ -5,7 +5,7 @@ use crate::cases::{little_endian_bytes, Case, MOST_SITE_BYTES};
 use crate::drafts::Draft;
 use crate::inputs::lengths;
 use crate::making::Maker;
-use crate::named::{good_drafts, refused_runs};
+use crate::named::{good_drafts, refused_longest, refused_runs};
 use crate::relations::{converse, ALL, SINGLES};
 
 /// The cases made after the fixed ones, and their seed.
@@ -24,6 +24,7 @@ pub fn all() -> Vec<Case> {
     cases.extend(wrong_tables());
     cases.extend(fresh_tables());
     cases.extend(very_long_runs());
+    cases.extend(refused_longest().iter().map(|(_, words)| Case::read(words)));
     let mut maker = Maker::from_seed(SEED);
     cases.extend((0..MADE).map(|_| maker.next_case()));
     cases

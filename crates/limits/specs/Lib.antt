@@ -1,1 +1,0 @@
--- There is nothing that the contracts cite.

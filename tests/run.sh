@@ -43,10 +43,26 @@ if [ "$(cat "$room/status")" -ne 0 ]; then
 fi
 passed=$((passed + ${verdict%% passed,*}))
 
-try "the example in C" make --no-print-directory c_example
-try "the examples of sites" sh tests/examples.sh
-try "the program on stored inputs" sh tests/site.sh
-try "the second program's answers" sh tests/second.sh
+# No two of these write the same file, so they run side by side. What each writes is kept, and told in this order.
+begin() { # NAME COMMAND...
+    name=$1
+    shift
+    "$@" >"$room/$name" 2>&1 &
+    echo "$! $name" >>"$room/begun"
+}
+ended() { # ID NAME
+    wait "$1"
+    status=$?
+    cat "$room/$2"
+    return "$status"
+}
+begin "the example in C" make --no-print-directory c_example
+begin "the examples of sites" sh tests/examples.sh
+begin "the program on stored inputs" sh tests/site.sh
+begin "the second program's answers" sh tests/second.sh
+while read -r id name; do
+    try "$name" ended "$id" "$name"
+done <"$room/begun"
 
 echo "$passed passed, $failed failed"
 [ "$failed" -eq 0 ]

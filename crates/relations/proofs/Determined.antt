@@ -1,15 +1,6 @@
 -- Any two answers that a contract of this crate permits are equal. Assumes nothing.
-use mathlib.Core.Path.{_≡_, sym, _∙_, subst}
-use mathlib.Core.List.{List}
-use Prim.Native.Nat.{ℕ, _+_, _*_, _/_, _%_, _<_}
-use native.Mathlib.Omega.{arith}
-use lib.ListN.{length, getD}
-use lib.Seq.{ext-getD}
+use mathlib.Core.Path.{sym, _∙_}
 use Rattle.contracts.specs.Contracts.{OneResult}
-use Rattle.rules.specs.Relations.{relations, setLimit}
-use Rattle.relations.specs.Composing.{Composes}
-use Rattle.relations.proofs.compose.Kinds as compose-kinds
-use Rattle.relations.proofs.compose.Reads as compose
 use Rattle.relations.proofs.meet.Kinds as meet-kinds
 use Rattle.relations.proofs.meet.Reads as meet
 use Rattle.relations.proofs.join.Kinds as join-kinds
@@ -22,23 +13,6 @@ use Rattle.relations.proofs.size.Kinds as size-kinds
 use Rattle.relations.proofs.size.Reads as size
 use Rattle.relations.proofs.single.Kinds as single-kinds
 use Rattle.relations.proofs.single.Reads as single
-use Rattle.relations.proofs.composition_table.Kinds as composition-table-kinds
-use Rattle.relations.proofs.composition_table.Reads as composition-table
-
--- two tables of compositions are equal
-one-table : (t u : List ℕ) → Composes t → Composes u → t ≡ u
-unfolding relations
-one-table t u a b =
-    ext-getD 0 t u (a .cells ∙ sym (b .cells))
-    (λ k h.
-    let c : length t ≡ setLimit * setLimit = a .cells in
-    let x : k / setLimit < setLimit = omega arith in
-    let y : k % setLimit < setLimit = omega arith in
-    let e : setLimit * (k / setLimit) + k % setLimit ≡ k = omega arith in
-    subst (λ (n : ℕ). getD t n 0 ≡ getD u n 0) e (a .entry (k / setLimit) (k % setLimit) x y ∙ sym (b .entry (k / setLimit) (k % setLimit) x y)))
-
-pub compose-determined : OneResult 1 compose-kinds.ps compose-kinds.r compose.Asked compose.Learnt
-compose-determined κs a asked x y d e p q = p ∙ sym q
 
 pub meet-determined : OneResult 0 meet-kinds.ps meet-kinds.r meet.Asked meet.Learnt
 meet-determined κs a asked x y d e p q = p ∙ sym q
@@ -57,6 +31,3 @@ size-determined κs a asked x y d e p q = p ∙ sym q
 
 pub single-determined : OneResult 0 single-kinds.ps single-kinds.r single.Asked single.Learnt
 single-determined κs a asked x y d e p q = p ∙ sym q
-
-pub composition-table-determined : OneResult 0 composition-table-kinds.ps composition-table-kinds.r composition-table.Asked composition-table.Learnt
-composition-table-determined κs a asked x y d e p q = one-table x y p q

@@ -1,10 +1,7 @@
-// Sets of relations between two boards as bytes, a bit for each relation: their operations and their composition.
-mod compositions;
-
+// Sets of relations between two boards as bytes, a bit for each relation: their operations.
 ghost use mathlib.Core.Path.{_≡_};
 ghost use Prim.Native.Nat.{_^_, _<_};
-ghost use Rattle.rules.specs.Relations.{relations, setLimit, meet, join, complement, converse, size, composed, compose};
-ghost use Rattle.relations.specs.Composing.{Composes};
+ghost use Rattle.rules.specs.Relations.{relations, setLimit, meet, join, complement, converse, size};
 use answers::widths::byte_number;
 
 // The four relations, each as a set of one: same board, above, below, side.
@@ -32,18 +29,7 @@ pub const NOT_SAME: u8 = FULL - E;
 pub const RELATIONS: usize = 4;
 
 // How many sets of relations there are.
-const SETS: usize = 1 << RELATIONS;
-
-// How many pairs of sets there are.
-const SET_PAIRS: usize = SETS * SETS;
-
-// The sixteen compositions of single relations: what p to r may be, given p to q (row) and q to r (column).
-const SINGLES: [[u8; RELATIONS]; RELATIONS] = [
-    [1, 2, 4, 8], // E
-    [2, 2, 7, 10], // A
-    [4, 15, 4, 8], // B
-    [8, 8, 12, 15], // S
-];
+pub const SETS: usize = 1 << RELATIONS;
 
 // Each set as seen from the other board, with A and B exchanged.
 const CONVERSES: [u8; SETS] = [
@@ -64,29 +50,6 @@ const CONVERSES: [u8; SETS] = [
     14, // ABS
     15, // EABS
 ];
-
-// Gives what two single relations compose to, by their numbers.
-fn composed(r: usize, s: usize) -> u8
-    requires { ⌜ (r < relations) × (s < relations) ⌝ }
-    ensures { λ z. ⌜ z ≡ composed r s ⌝ }
-{
-    SINGLES[r][s]
-}
-
-// Gives the compositions of all pairs of sets. They are lent to `compose`, so that a loop lays them out once.
-pub fn composition_table() -> [u8; SET_PAIRS]
-    ensures { λ t. ⌜ Composes t ⌝ }
-{
-    compositions::COMPOSITIONS
-}
-
-// Gives what two sets compose to, by the table of compositions.
-pub fn compose(table: &[u8; SET_PAIRS], x: u8, y: u8) -> u8
-    requires { ⌜ Composes (now table) × (x < setLimit) × (y < setLimit) ⌝ }
-    ensures { λ z. ⌜ z ≡ compose x y ⌝ }
-{
-    table[SETS * byte_number(x) + byte_number(y)]
-}
 
 // The relations that both sets have.
 pub fn meet(x: u8, y: u8) -> u8

@@ -30,14 +30,14 @@ pub fn rules3(v: usize, cells: &mut [u8]) -> Swept
     requires { ⌜ Ready v (now cells) ⌝ }
     ensures { λ r. ⌜ sweeping v (rules3 v) (now (cells .entry)) (now (cells .exit)) r ⌝ }
 {
-    let compositions = relations::composition_table();
+    let entries = compositions::composition_table();
     let mut struck = 0;
     let mut last = relations::FULL;
     'sweep: for p in 0..v {
         for q in 0..v {
             for r in 0..v {
                 let k = v * p + r;
-                let bound = relations::compose(&compositions, cells[v * p + q], cells[v * q + r]);
+                let bound = compositions::compose(&entries, cells[v * p + q], cells[v * q + r]);
                 struck += tables::narrow(cells, k, bound);
                 last = cells[k];
                 if last == 0 {

@@ -18,25 +18,25 @@ use Rattle.sweeps.proofs.rules3.Statement.{statement}
 use Rattle.sweeps.proofs.rules3.Tie as tie
 
 abbrev Inv-loop2 : tie.InvT-loop2
-Inv-loop2 v cells₀ compositions struck₀ last₀ p q r₀ cells struck last r =
+Inv-loop2 v cells₀ entries struck₀ last₀ p q r₀ cells struck last r =
     (r ≤ v) × Pass (Sound v) v (flatMap (through v p q) (upTo r)) cells₀ struck₀ cells struck × (last ≡ 0 → ⊥)
 
 abbrev μ-loop2 : tie.MeasureT-loop2
-μ-loop2 v cells₀ compositions struck₀ last₀ p q r₀ cells struck last r = v - r
+μ-loop2 v cells₀ entries struck₀ last₀ p q r₀ cells struck last r = v - r
 
 abbrev Inv-loop : tie.InvT-loop
-Inv-loop v cells₀ compositions struck₀ last₀ p q₀ cells struck last q =
+Inv-loop v cells₀ entries struck₀ last₀ p q₀ cells struck last q =
     (q ≤ v) × Pass (Sound v) v (flatMap (through-each v p) (upTo q)) cells₀ struck₀ cells struck × (last ≡ 0 → ⊥)
 
 abbrev μ-loop : tie.MeasureT-loop
-μ-loop v cells₀ compositions struck₀ last₀ p q₀ cells struck last q = v - q
+μ-loop v cells₀ entries struck₀ last₀ p q₀ cells struck last q = v - q
 
 abbrev Inv-sweep : tie.InvT-sweep
-Inv-sweep v cells₀ compositions struck₀ last₀ p₀ cells struck last p =
+Inv-sweep v cells₀ entries struck₀ last₀ p₀ cells struck last p =
     (p ≤ v) × Pass (Sound v) v (flatMap (through-all v) (upTo p)) cells₀ struck₀ cells struck × (last ≡ 0 → ⊥)
 
 abbrev μ-sweep : tie.MeasureT-sweep
-μ-sweep v cells₀ compositions struck₀ last₀ p₀ cells struck last p = v - p
+μ-sweep v cells₀ entries struck₀ last₀ p₀ cells struck last p = v - p
 
 composition-table-requires : tie.Need-composition-table-requires Inv-loop2 μ-loop2 Inv-loop μ-loop Inv-sweep μ-sweep
 composition-table-requires c κs = search needs

@@ -6,8 +6,8 @@ use native.Mathlib.Omega.{arith}
 use lib.ListN.{getD}
 use Rattle.rules.specs.Relations.{relations, has, setTo, setOf, singles, composed, compose, setLimit}
 use Rattle.rules.proofs.Entries.{values, value-at}
-use Rattle.relations.proofs.composition_table.Statement.{statement}
-use Rattle.relations.proofs.composition_table.Tie as tie
+use Rattle.compositions.proofs.composition_table.Statement.{statement}
+use Rattle.compositions.proofs.composition_table.Tie as tie
 
 -- what the table has at each of its places
 pairs : ℕ → ℕ

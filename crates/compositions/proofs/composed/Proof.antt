@@ -2,8 +2,8 @@
 use mathlib.Core.Path.{refl}
 use native.Mathlib.Omega.{arith}
 use Rattle.rules.specs.Relations.{relations, singles, composed}
-use Rattle.relations.proofs.composed.Statement.{statement}
-use Rattle.relations.proofs.composed.Tie as tie
+use Rattle.compositions.proofs.composed.Statement.{statement}
+use Rattle.compositions.proofs.composed.Tie as tie
 
 mul-result : tie.Need-mul-result
 unfolding relations

@@ -2,8 +2,8 @@
 use borrow.Author.Needs.{needs}
 use native.Mathlib.Omega.{arith}
 use Rattle.rules.specs.Relations.{relations}
-use Rattle.relations.proofs.compose.Statement.{statement}
-use Rattle.relations.proofs.compose.Tie as tie
+use Rattle.compositions.proofs.compose.Statement.{statement}
+use Rattle.compositions.proofs.compose.Tie as tie
 
 byte-number-requires : tie.Need-byte-number-requires
 byte-number-requires c κs = search needs

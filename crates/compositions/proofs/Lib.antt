@@ -1,0 +1,2 @@
+-- The laws behind the functions of this crate.
+pub mod Determined

@@ -71,8 +71,8 @@ fn put_pair(text: &mut [u8], at: usize, p: usize, set: u8, q: usize) -> usize
     ensures { λ n. ⌜ Put (now (text .entry)) at (decimal p ++ (signText set ++ (decimal q ++ lineFeed))) (now (text .exit)) n ⌝ }
 {
     let after = put_number(text, at, p);
-    let middle = sign_text(set);
-    let next = put_text(text, after, &middle);
+    let shown = sign_text(set);
+    let next = put_text(text, after, &shown);
     put_last(text, next, q)
 }
 

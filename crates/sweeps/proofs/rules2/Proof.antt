@@ -3,11 +3,13 @@ use mathlib.Core.Path.{sym, subst}
 use mathlib.Core.List.{flatMap}
 use Prim.Native.Nat.{ℕ, _+_, _*_, _-_, _≤_, _<_}
 use native.Mathlib.Omega.{arith}
+use borrow.Author.Needs.{needs}
 use Rattle.rules.specs.Relations.{setLimit}
-use Rattle.rules.specs.Tables.{cell, upTo}
+use Rattle.rules.specs.Descriptions.{mostCells}
+use Rattle.rules.specs.Tables.{upTo}
 use Rattle.rules.specs.Closing.{boardsOf, rules2}
 use Rattle.rules.proofs.Composition.{converse-small}
-use Rattle.passes.specs.Passes.{mostMembers, Quiet, Pass}
+use Rattle.passes.specs.Passes.{mostMembers, Ready, Quiet, Pass}
 use Rattle.passes.proofs.Passes.{pass-start, pass-next, pass-whole, kept-then, kept-few, place-few, ready-place, ready-kept}
 use Rattle.sweeps.proofs.Sweeping.{across, across-turn}
 use Rattle.sweeps.proofs.rules2.Statement.{statement}
@@ -32,82 +34,92 @@ loop-holds c = (omega arith, pass-start _ _ (c .before .pre .table))
 loop2-holds : tie.Need-loop2-holds Inv-loop2 μ-loop2 Inv-loop μ-loop
 loop2-holds c = (omega arith, pass-start _ _ (c .before .loop .inv .1 .kept .table))
 
+-- the inner loop is entered
+abbrev Inner : Type 0
+Inner = tie.In-loop2 Inv-loop2 μ-loop2 Inv-loop μ-loop
+
+module _ (c : Inner) where
+  abbrev start : tie.Start Inv-loop2 μ-loop2 Inv-loop μ-loop
+  start = c .before .before .before .before .before
+
+  abbrev boards : ℕ
+  boards = start .args .v
+
+  abbrev p : ℕ
+  p = c .before .before .before .loop .p
+
+  abbrev q : ℕ
+  q = c .before .loop2 .q
+
+  p-board : p < boards
+  p-board = c .before .before .loop-test .taken
+
+  q-board : q < boards
+  q-board = c .loop2-test .taken
+
+  -- the table before the loop over q, and at this turn
+  ready-before : Ready boards (c .before .before .before .loop .cells)
+  ready-before = ready-kept (start .pre) (c .before .before .before .loop .inv .1 .kept)
+
+  ready : Ready boards (c .before .loop2 .cells)
+  ready = ready-kept ready-before (c .before .loop2 .inv .1 .kept)
+
+  -- the places of both cells are few
+  few-pq : boards * p + q < mostCells
+  few-pq = place-few (start .pre .boards) p-board q-board
+
+  few-qp : boards * q + p < mostCells
+  few-qp = place-few (start .pre .boards) q-board p-board
+
 mul-converse : tie.Need-mul-converse Inv-loop2 μ-loop2 Inv-loop μ-loop
-mul-converse c =
-    let start = c .before .before .before .before .before in
-    let l : c .before .before .before .loop .p < start .args .v = c .before .before .loop-test .taken in
-    let m : c .before .loop2 .q < start .args .v = c .loop2-test .taken in
-    record { fits = omega (arith, place-few (start .pre .boards) l m) }
+mul-converse c = record { fits = omega (arith, few-pq c) }
 
 add-converse : tie.Need-add-converse Inv-loop2 μ-loop2 Inv-loop μ-loop
-add-converse c =
-    let start = c .before .before .before .before .before in
-    let l : c .before .before .before .loop .p < start .args .v = c .before .before .loop-test .taken in
-    let m : c .before .loop2 .q < start .args .v = c .loop2-test .taken in
-    record { fits = omega (arith, place-few (start .pre .boards) l m) }
+add-converse c = record { fits = omega (arith, few-pq c) }
 
 slice-read-converse : tie.Need-slice-read-converse Inv-loop2 μ-loop2 Inv-loop μ-loop
-slice-read-converse c =
-    let start = c .before .before .before .before .before .before in
-    ready-place (ready-kept (ready-kept (start .pre) (c .before .before .before .before .loop .inv .1 .kept)) (c .before .before .loop2 .inv .1 .kept)) (c .before .before .before .loop-test .taken)
-    (c .before .loop2-test .taken)
+slice-read-converse c = let at = c .before in ready-place (ready at) (p-board at) (q-board at)
 
 converse-requires : tie.Need-converse-requires Inv-loop2 μ-loop2 Inv-loop μ-loop
-converse-requires c κs = c .before .before .loop2 .inv .1 .kept .table .small (c .before .before .before .before .before .before .args .v * c .before .before .before .before .loop .p + c .before .before .loop2 .q)
+converse-requires c κs = let at = c .before in ready at .table .small (boards at * p at + q at)
 
 mul-k : tie.Need-mul-k Inv-loop2 μ-loop2 Inv-loop μ-loop
-mul-k c =
-    let start = c .before .before .before .before .before .before .before in
-    let l : c .before .before .before .before .before .loop .p < start .args .v = c .before .before .before .before .loop-test .taken in
-    let m : c .before .before .before .loop2 .q < start .args .v = c .before .before .loop2-test .taken in
-    record { fits = omega (arith, place-few (start .pre .boards) m l) }
+mul-k c = record { fits = omega (arith, few-pq (c .before .before), few-qp (c .before .before)) }
 
 add-k : tie.Need-add-k Inv-loop2 μ-loop2 Inv-loop μ-loop
-add-k c =
-    let start = c .before .before .before .before .before .before .before in
-    let l : c .before .before .before .before .before .loop .p < start .args .v = c .before .before .before .before .loop-test .taken in
-    let m : c .before .before .before .loop2 .q < start .args .v = c .before .before .loop2-test .taken in
-    record { fits = omega (arith, place-few (start .pre .boards) m l) }
+add-k c = record { fits = omega (arith, few-pq (c .before .before), few-qp (c .before .before)) }
 
 narrow-requires : tie.Need-narrow-requires Inv-loop2 μ-loop2 Inv-loop μ-loop
 narrow-requires c κs =
-    let start = c .before .before .before .before .before .before .before .before in
-    let loop2 = c .before .before .before .before .loop2 in
-    let p = c .before .before .before .before .before .before .loop .p in
-    let ready = ready-kept (ready-kept (start .pre) (c .before .before .before .before .before .before .loop .inv .1 .kept)) (loop2 .inv .1 .kept) in (
-      ready-place ready (c .before .before .before .loop2-test .taken) (c .before .before .before .before .before .loop-test .taken),
-      ready .table .small (start .args .v * loop2 .q + p),
-      subst (λ (x : ℕ). x < setLimit) (sym (c .before .converse .ensures)) (converse-small (cell (start .args .v) (loop2 .cells) p (loop2 .q))),
+    let at = c .before .before .before in
+    let small = ready at .table .small in (
+      omega (arith, ready-place (ready at) (p-board at) (q-board at), ready-place (ready at) (q-board at) (p-board at)),
+      search (needs, small),
+      subst (λ (x : ℕ). x < setLimit) (sym (c .before .converse .ensures)) (converse-small _),
     )
 
 add-struck : tie.Need-add-struck Inv-loop2 μ-loop2 Inv-loop μ-loop
 add-struck c =
-    let start = c .before .before .before .before .before .before .before .before .before .before .before in
-    let loop = c .before .before .before .before .before .before .before .before .before .loop in
-    let loop2 = c .before .before .before .before .before .before .before .loop2 in
-    let k = across-turn (ready-kept (start .pre) (loop .inv .1 .kept)) (c .before .before .before .before .before .before .before .before .loop-test .taken) (c .before .before .before .before .before .before .loop2-test .taken) (loop2 .inv .1) (c .before .before .before .before .converse .ensures) (c .before .before .narrow .ensures) in
-    let l : loop2 .struck + c .before .before .narrow .result ≤ 0 + mostMembers = kept-few (start .pre) (kept-then _ (loop .inv .1 .kept) (k .kept)) in
+    let at = c .before .before .before .before .before .before in
+    let k = across-turn (ready-before at) (p-board at) (q-board at) (at .before .loop2 .inv .1) (c .before .before .before .before .converse .ensures) (c .before .before .narrow .ensures) in
+    let l : at .before .loop2 .struck + c .before .before .narrow .result ≤ 0 + mostMembers = kept-few (start at .pre) (kept-then _ (at .before .before .before .loop .inv .1 .kept) (k .kept)) in
     record { fits = omega arith }
 
 add-q : tie.Need-add-q Inv-loop2 μ-loop2 Inv-loop μ-loop
 add-q c =
-    let start = c .before .before .before .before .before .before .before .before .before .before .before in
-    let l : c .before .before .before .before .before .before .before .loop2 .q < start .args .v = c .before .before .before .before .before .before .loop2-test .taken in
-    let m : start .args .v ≤ 16 = start .pre .boards in
+    let at = c .before .before .before .before .before .before in
+    let l = q-board at in
+    let m : boards at ≤ 16 = start at .pre .boards in
     record { fits = omega arith }
 
 loop2-less : tie.Need-loop2-less Inv-loop2 μ-loop2 Inv-loop μ-loop
-loop2-less c = omega (arith, c .before .before .before .before .before .before .loop2-test .taken)
+loop2-less c = omega (arith, q-board (c .before .before .before .before .before .before))
 
 loop2-again : tie.Need-loop2-again Inv-loop2 μ-loop2 Inv-loop μ-loop
 loop2-again c =
-    let start = c .before .before .before .before .before .before .before .before .before .before .before in
-    let loop2 = c .before .before .before .before .before .before .before .loop2 in
-    let l : loop2 .q < start .args .v = c .before .before .before .before .before .before .loop2-test .taken in (
-      omega arith,
-      across-turn (ready-kept (start .pre) (c .before .before .before .before .before .before .before .before .before .loop .inv .1 .kept)) (c .before .before .before .before .before .before .before .before .loop-test .taken) l (loop2 .inv .1)
-          (c .before .before .before .before .converse .ensures) (c .before .before .narrow .ensures),
-    )
+    let at = c .before .before .before .before .before .before in
+    let l = q-board at in
+    (omega arith, across-turn (ready-before at) (p-board at) l (at .before .loop2 .inv .1) (c .before .before .before .before .converse .ensures) (c .before .before .narrow .ensures))
 
 add-p : tie.Need-add-p Inv-loop2 μ-loop2 Inv-loop μ-loop
 add-p c =

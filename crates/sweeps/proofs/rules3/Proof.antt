@@ -8,10 +8,11 @@ use native.Mathlib.Omega.{arith}
 use borrow.Author.Needs.{needs}
 use lib.ListN.{length}
 use Rattle.rules.specs.Relations.{setLimit}
-use Rattle.rules.specs.Tables.{cell, upTo}
+use Rattle.rules.specs.Descriptions.{mostCells}
+use Rattle.rules.specs.Tables.{upTo}
 use Rattle.rules.specs.Closing.{rules3}
 use Rattle.rules.proofs.Composition.{compose-small}
-use Rattle.passes.specs.Passes.{mostMembers, Sound, Pass, Clash}
+use Rattle.passes.specs.Passes.{mostMembers, Ready, Sound, Pass, Clash}
 use Rattle.passes.proofs.Passes.{pass-start, pass-next, pass-whole, kept-then, kept-few, place-few, ready-place, ready-kept}
 use Rattle.sweeps.proofs.Sweeping.{through, through-each, through-all, through-turn, through-kept, through-clash}
 use Rattle.sweeps.proofs.rules3.Statement.{statement}
@@ -50,177 +51,123 @@ loop-holds c = (omega arith, pass-start _ _ (c .before .sweep .inv .1 .kept .tab
 loop2-holds : tie.Need-loop2-holds Inv-loop2 μ-loop2 Inv-loop μ-loop Inv-sweep μ-sweep
 loop2-holds c = (omega arith, pass-start _ _ (c .before .loop .inv .1 .kept .table), c .before .loop .inv .2)
 
+-- the innermost loop is entered
+abbrev Inner : Type 0
+Inner = tie.In-loop2 Inv-loop2 μ-loop2 Inv-loop μ-loop Inv-sweep μ-sweep
+
+module _ (c : Inner) where
+  abbrev start : tie.Start Inv-loop2 μ-loop2 Inv-loop μ-loop Inv-sweep μ-sweep
+  start = c .before .before .before .before .before .before .before .before
+
+  abbrev boards : ℕ
+  boards = start .args .v
+
+  abbrev p : ℕ
+  p = c .before .before .before .before .before .sweep .p
+
+  abbrev q : ℕ
+  q = c .before .before .before .loop .q
+
+  abbrev r : ℕ
+  r = c .before .loop2 .r
+
+  p-board : p < boards
+  p-board = c .before .before .before .before .sweep-test .taken
+
+  q-board : q < boards
+  q-board = c .before .before .loop-test .taken
+
+  r-board : r < boards
+  r-board = c .loop2-test .taken
+
+  -- the table before the loop over r, and at this turn
+  ready-before : Ready boards (c .before .before .before .loop .cells)
+  ready-before = ready-kept (ready-kept (start .pre) (c .before .before .before .before .before .sweep .inv .1 .kept)) (c .before .before .before .loop .inv .1 .kept)
+
+  ready : Ready boards (c .before .loop2 .cells)
+  ready = ready-kept ready-before (c .before .loop2 .inv .1 .kept)
+
+  -- the places of the three cells are few
+  few-pq : boards * p + q < mostCells
+  few-pq = place-few (start .pre .boards) p-board q-board
+
+  few-qr : boards * q + r < mostCells
+  few-qr = place-few (start .pre .boards) q-board r-board
+
+  few-pr : boards * p + r < mostCells
+  few-pr = place-few (start .pre .boards) p-board r-board
+
 mul-k : tie.Need-mul-k Inv-loop2 μ-loop2 Inv-loop μ-loop Inv-sweep μ-sweep
-mul-k c =
-    let start = c .before .before .before .before .before .before .before .before in
-    let v = start .args .v in
-    let sweep = c .before .before .before .before .before .sweep in
-    let loop = c .before .before .before .loop in
-    let loop2 = c .before .loop2 in
-    let hp : sweep .p < v = c .before .before .before .before .sweep-test .taken in
-    let hq : loop .q < v = c .before .before .loop-test .taken in
-    let hr : loop2 .r < v = c .loop2-test .taken in
-    record { fits = omega (arith, place-few (start .pre .boards) hp hr) }
+mul-k c = record { fits = omega (arith, few-pr c) }
 
 add-k : tie.Need-add-k Inv-loop2 μ-loop2 Inv-loop μ-loop Inv-sweep μ-sweep
-add-k c =
-    let start = c .before .before .before .before .before .before .before .before in
-    let v = start .args .v in
-    let sweep = c .before .before .before .before .before .sweep in
-    let loop = c .before .before .before .loop in
-    let loop2 = c .before .loop2 in
-    let hp : sweep .p < v = c .before .before .before .before .sweep-test .taken in
-    let hq : loop .q < v = c .before .before .loop-test .taken in
-    let hr : loop2 .r < v = c .loop2-test .taken in
-    record { fits = omega (arith, place-few (start .pre .boards) hp hr) }
+add-k c = record { fits = omega (arith, few-pr c) }
 
 mul-compose : tie.Need-mul-compose Inv-loop2 μ-loop2 Inv-loop μ-loop Inv-sweep μ-sweep
-mul-compose c =
-    let start = c .before .before .before .before .before .before .before .before .before in
-    let v = start .args .v in
-    let sweep = c .before .before .before .before .before .before .sweep in
-    let loop = c .before .before .before .before .loop in
-    let loop2 = c .before .before .loop2 in
-    let hp : sweep .p < v = c .before .before .before .before .before .sweep-test .taken in
-    let hq : loop .q < v = c .before .before .before .loop-test .taken in
-    let hr : loop2 .r < v = c .before .loop2-test .taken in
-    record { fits = omega (arith, place-few (start .pre .boards) hp hq) }
+mul-compose c = record { fits = omega (arith, few-pq (c .before), few-qr (c .before)) }
 
 add-compose : tie.Need-add-compose Inv-loop2 μ-loop2 Inv-loop μ-loop Inv-sweep μ-sweep
-add-compose c =
-    let start = c .before .before .before .before .before .before .before .before .before in
-    let v = start .args .v in
-    let sweep = c .before .before .before .before .before .before .sweep in
-    let loop = c .before .before .before .before .loop in
-    let loop2 = c .before .before .loop2 in
-    let hp : sweep .p < v = c .before .before .before .before .before .sweep-test .taken in
-    let hq : loop .q < v = c .before .before .before .loop-test .taken in
-    let hr : loop2 .r < v = c .before .loop2-test .taken in
-    record { fits = omega (arith, place-few (start .pre .boards) hp hq) }
+add-compose c = record { fits = omega (arith, few-pq (c .before), few-qr (c .before)) }
 
 slice-read-compose : tie.Need-slice-read-compose Inv-loop2 μ-loop2 Inv-loop μ-loop Inv-sweep μ-sweep
 slice-read-compose c =
-    let start = c .before .before .before .before .before .before .before .before .before .before in
-    let v = start .args .v in
-    let sweep = c .before .before .before .before .before .before .before .sweep in
-    let loop = c .before .before .before .before .before .loop in
-    let loop2 = c .before .before .before .loop2 in
-    let hp : sweep .p < v = c .before .before .before .before .before .before .sweep-test .taken in
-    let hq : loop .q < v = c .before .before .before .before .loop-test .taken in
-    let ready = ready-kept (ready-kept (ready-kept (start .pre) (sweep .inv .1 .kept)) (loop .inv .1 .kept)) (loop2 .inv .1 .kept) in
-    ready-place ready hp hq
+    let at = c .before .before in
+    omega (arith, ready-place (ready at) (p-board at) (q-board at), ready-place (ready at) (q-board at) (r-board at))
 
 mul-compose-2 : tie.Need-mul-compose-2 Inv-loop2 μ-loop2 Inv-loop μ-loop Inv-sweep μ-sweep
-mul-compose-2 c =
-    let start = c .before .before .before .before .before .before .before .before .before .before in
-    let v = start .args .v in
-    let sweep = c .before .before .before .before .before .before .before .sweep in
-    let loop = c .before .before .before .before .before .loop in
-    let loop2 = c .before .before .before .loop2 in
-    let hp : sweep .p < v = c .before .before .before .before .before .before .sweep-test .taken in
-    let hq : loop .q < v = c .before .before .before .before .loop-test .taken in
-    let hr : loop2 .r < v = c .before .before .loop2-test .taken in
-    record { fits = omega (arith, place-few (start .pre .boards) hq hr) }
+mul-compose-2 c = record { fits = omega (arith, few-pq (c .before .before), few-qr (c .before .before)) }
 
 add-compose-2 : tie.Need-add-compose-2 Inv-loop2 μ-loop2 Inv-loop μ-loop Inv-sweep μ-sweep
-add-compose-2 c =
-    let start = c .before .before .before .before .before .before .before .before .before .before in
-    let v = start .args .v in
-    let sweep = c .before .before .before .before .before .before .before .sweep in
-    let loop = c .before .before .before .before .before .loop in
-    let loop2 = c .before .before .before .loop2 in
-    let hp : sweep .p < v = c .before .before .before .before .before .before .sweep-test .taken in
-    let hq : loop .q < v = c .before .before .before .before .loop-test .taken in
-    let hr : loop2 .r < v = c .before .before .loop2-test .taken in
-    record { fits = omega (arith, place-few (start .pre .boards) hq hr) }
+add-compose-2 c = record { fits = omega (arith, few-pq (c .before .before), few-qr (c .before .before)) }
 
 slice-read-compose-2 : tie.Need-slice-read-compose-2 Inv-loop2 μ-loop2 Inv-loop μ-loop Inv-sweep μ-sweep
 slice-read-compose-2 c =
-    let start = c .before .before .before .before .before .before .before .before .before .before .before in
-    let v = start .args .v in
-    let sweep = c .before .before .before .before .before .before .before .before .sweep in
-    let loop = c .before .before .before .before .before .before .loop in
-    let loop2 = c .before .before .before .before .loop2 in
-    let hq : loop .q < v = c .before .before .before .before .before .loop-test .taken in
-    let hr : loop2 .r < v = c .before .before .before .loop2-test .taken in
-    let ready = ready-kept (ready-kept (ready-kept (start .pre) (sweep .inv .1 .kept)) (loop .inv .1 .kept)) (loop2 .inv .1 .kept) in
-    ready-place ready hq hr
+    let at = c .before .before .before in
+    omega (arith, ready-place (ready at) (p-board at) (q-board at), ready-place (ready at) (q-board at) (r-board at))
 
 compose-requires : tie.Need-compose-requires Inv-loop2 μ-loop2 Inv-loop μ-loop Inv-sweep μ-sweep
 compose-requires c κs =
-    let start = c .before .before .before .before .before .before .before .before .before .before .before in
-    let v = start .args .v in
-    let sweep = c .before .before .before .before .before .before .before .before .sweep in
-    let loop = c .before .before .before .before .before .before .loop in
-    let loop2 = c .before .before .before .before .loop2 in
-    let ready = ready-kept (ready-kept (ready-kept (start .pre) (sweep .inv .1 .kept)) (loop .inv .1 .kept)) (loop2 .inv .1 .kept) in
-    (c .before .before .before .before .before .before .before .before .before .composition-table .ensures, ready .table .small (v * sweep .p + loop .q), ready .table .small (v * loop .q + loop2 .r))
+    let at = c .before .before .before in
+    let small = ready at .table .small in
+    (at .before .before .before .before .before .before .composition-table .ensures, search (needs, small), search (needs, small))
 
 narrow-requires : tie.Need-narrow-requires Inv-loop2 μ-loop2 Inv-loop μ-loop Inv-sweep μ-sweep
 narrow-requires c κs =
-    let start = c .before .before .before .before .before .before .before .before .before .before .before .before .before in
-    let v = start .args .v in
-    let sweep = c .before .before .before .before .before .before .before .before .before .before .sweep in
-    let loop = c .before .before .before .before .before .before .before .before .loop in
-    let loop2 = c .before .before .before .before .before .before .loop2 in
-    let hp : sweep .p < v = c .before .before .before .before .before .before .before .before .before .sweep-test .taken in
-    let hr : loop2 .r < v = c .before .before .before .before .before .loop2-test .taken in
-    let ready = ready-kept (ready-kept (ready-kept (start .pre) (sweep .inv .1 .kept)) (loop .inv .1 .kept)) (loop2 .inv .1 .kept) in (
-      ready-place ready hp hr,
-      ready .table .small (v * sweep .p + loop2 .r),
-      subst (λ (x : ℕ). x < setLimit) (sym (c .before .compose .ensures)) (compose-small (cell v (loop2 .cells) (sweep .p) (loop .q)) (cell v (loop2 .cells) (loop .q) (loop2 .r))),
+    let at = c .before .before .before .before .before in (
+      ready-place (ready at) (p-board at) (r-board at),
+      ready at .table .small (boards at * p at + r at),
+      subst (λ (x : ℕ). x < setLimit) (sym (c .before .compose .ensures)) (compose-small _ _),
     )
 
 add-struck : tie.Need-add-struck Inv-loop2 μ-loop2 Inv-loop μ-loop Inv-sweep μ-sweep
 add-struck c =
-    let start = c .before .before .before .before .before .before .before .before .before .before .before .before .before .before .before .before in
-    let v = start .args .v in
-    let sweep = c .before .before .before .before .before .before .before .before .before .before .before .before .before .sweep in
-    let loop = c .before .before .before .before .before .before .before .before .before .before .before .loop in
-    let loop2 = c .before .before .before .before .before .before .before .before .before .loop2 in
-    let hp : sweep .p < v = c .before .before .before .before .before .before .before .before .before .before .before .before .sweep-test .taken in
-    let hr : loop2 .r < v = c .before .before .before .before .before .before .before .before .loop2-test .taken in
-    let k = through-kept (loop .q) (ready-kept (ready-kept (start .pre) (sweep .inv .1 .kept)) (loop .inv .1 .kept)) hp hr (loop2 .inv .1) (c .before .before .before .before .compose .ensures) (c .before .before .narrow .ensures) in
-    let l : loop2 .struck + c .before .before .narrow .result ≤ 0 + mostMembers = kept-few (start .pre) (kept-then _ (sweep .inv .1 .kept) (kept-then _ (loop .inv .1 .kept) k)) in
+    let at = c .before .before .before .before .before .before .before .before in
+    let k = through-kept (q at) (ready-before at) (p-board at) (r-board at) (at .before .loop2 .inv .1) (c .before .before .before .before .compose .ensures) (c .before .before .narrow .ensures) in
+    let l : at .before .loop2 .struck + c .before .before .narrow .result ≤ 0 + mostMembers = kept-few (start at .pre) (kept-then _ (at .before .before .before .before .before .sweep .inv .1 .kept) (kept-then _ (at .before .before .before .loop .inv .1 .kept) k)) in
     record { fits = omega arith }
 
 slice-read-last : tie.Need-slice-read-last Inv-loop2 μ-loop2 Inv-loop μ-loop Inv-sweep μ-sweep
 slice-read-last c =
-    let start = c .before .before .before .before .before .before .before .before .before .before .before .before .before .before .before .before .before in
-    let v = start .args .v in
-    let sweep = c .before .before .before .before .before .before .before .before .before .before .before .before .before .before .sweep in
-    let loop = c .before .before .before .before .before .before .before .before .before .before .before .before .loop in
-    let loop2 = c .before .before .before .before .before .before .before .before .before .before .loop2 in
-    let hp : sweep .p < v = c .before .before .before .before .before .before .before .before .before .before .before .before .before .sweep-test .taken in
-    let hr : loop2 .r < v = c .before .before .before .before .before .before .before .before .before .loop2-test .taken in
-    let k = through-kept (loop .q) (ready-kept (ready-kept (start .pre) (sweep .inv .1 .kept)) (loop .inv .1 .kept)) hp hr (loop2 .inv .1) (c .before .before .before .before .before .compose .ensures) (c .before .before .before .narrow .ensures) in
-    ready-place (record { boards = start .pre .boards; table = k .table }) hp hr
+    let at = c .before .before .before .before .before .before .before .before .before in
+    let k = through-kept (q at) (ready-before at) (p-board at) (r-board at) (at .before .loop2 .inv .1) (c .before .before .before .before .before .compose .ensures) (c .before .before .before .narrow .ensures) in
+    ready-place (record { boards = start at .pre .boards; table = k .table }) (p-board at) (r-board at)
 
 add-r : tie.Need-add-r Inv-loop2 μ-loop2 Inv-loop μ-loop Inv-sweep μ-sweep
 add-r c =
-    let start = c .before .before .before .before .before .before .before .before .before .before .before .before .before .before .before .before .before .before in
-    let v = start .args .v in
-    let sweep = c .before .before .before .before .before .before .before .before .before .before .before .before .before .before .before .sweep in
-    let loop = c .before .before .before .before .before .before .before .before .before .before .before .before .before .loop in
-    let loop2 = c .before .before .before .before .before .before .before .before .before .before .before .loop2 in
-    let hr : loop2 .r < v = c .before .before .before .before .before .before .before .before .before .before .loop2-test .taken in
-    let m : v ≤ 16 = start .pre .boards in
+    let at = c .before .before .before .before .before .before .before .before .before .before in
+    let l = r-board at in
+    let m : boards at ≤ 16 = start at .pre .boards in
     record { fits = omega arith }
 
 loop2-less : tie.Need-loop2-less Inv-loop2 μ-loop2 Inv-loop μ-loop Inv-sweep μ-sweep
-loop2-less c = omega (arith, c .before .before .before .before .before .before .before .before .before .before .loop2-test .taken)
+loop2-less c = omega (arith, r-board (c .before .before .before .before .before .before .before .before .before .before))
 
 loop2-again : tie.Need-loop2-again Inv-loop2 μ-loop2 Inv-loop μ-loop Inv-sweep μ-sweep
 loop2-again c =
-    let start = c .before .before .before .before .before .before .before .before .before .before .before .before .before .before .before .before .before .before in
-    let v = start .args .v in
-    let sweep = c .before .before .before .before .before .before .before .before .before .before .before .before .before .before .before .sweep in
-    let loop = c .before .before .before .before .before .before .before .before .before .before .before .before .before .loop in
-    let loop2 = c .before .before .before .before .before .before .before .before .before .before .before .loop2 in
-    let hp : sweep .p < v = c .before .before .before .before .before .before .before .before .before .before .before .before .before .before .sweep-test .taken in
-    let hr : loop2 .r < v = c .before .before .before .before .before .before .before .before .before .before .loop2-test .taken in (
+    let at = c .before .before .before .before .before .before .before .before .before .before in
+    let l = r-board at in (
       omega arith,
-      through-turn (loop .q) (ready-kept (ready-kept (start .pre) (sweep .inv .1 .kept)) (loop .inv .1 .kept)) hp hr (loop2 .inv .1) (c .before .before .before .before .before .before .compose .ensures) (c .before .before .before .before .narrow .ensures) (c .if1 .left),
+      through-turn (q at) (ready-before at) (p-board at) l (at .before .loop2 .inv .1) (c .before .before .before .before .before .before .compose .ensures) (c .before .before .before .before .narrow .ensures) (c .if1 .left),
       c .if1 .left,
     )
 

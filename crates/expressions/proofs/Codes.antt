@@ -2,8 +2,8 @@
 use mathlib.Core.Path.{_≡_, refl, ap, _∙_}
 use mathlib.Core.Bool.{Bool, not, _||_}
 use mathlib.Core.Logic.{⊎-elim}
-use Prim.Native.Nat.{ℕ, zero, suc, _≤_, _<_}
-use lib.Dec.{T, eqb, leb, eqb→eq, leb→le}
+use Prim.Native.Nat.{ℕ, zero, suc, _+_, _*_, _/_, _%_, _^_, _≤_, _<_}
+use lib.Dec.{T, eqb, eqb→eq}
 use lib.ListN.{length, List·getD-eq-default}
 use Rattle.rules.specs.Relations.{eachBelow}
 use Rattle.rules.specs.Expressions.{Code, relation, two, one, unknown, codes, code}
@@ -49,9 +49,12 @@ abbrev only : ℕ → ℕ → ℕ → ℕ → Bool
 only n a b w = not (eqb (operands (code w)) n) || (eqb w a || eqb w b)
 
 module _ (w : ℕ) (listed : w < length codes) where
-  pub at-most-two : operands (code w) ≤ 2
+  -- how many operands it takes, by the bits of the codes with operands, 240, and of those with one, 192
+  pub operands-marked : operands (code w) + 192 / 2 ^ w % 2 ≡ 2 * (240 / 2 ^ w % 2)
   unfolding code codes
-  at-most-two = leb→le (operands (code w)) 2 (each-at (length codes) (λ w. leb (operands (code w)) 2) tt w listed)
+  operands-marked =
+      eqb→eq (operands (code w) + 192 / 2 ^ w % 2) (2 * (240 / 2 ^ w % 2))
+      (each-at (length codes) (λ w. eqb (operands (code w) + 192 / 2 ^ w % 2) (2 * (240 / 2 ^ w % 2))) tt w listed)
 
   -- where no codes but a and b take n operands, one that does and is not a is b
   pub other : (n a b : ℕ) → T (eachBelow (length codes) (only n a b)) → operands (code w) ≡ n → (w ≡ a → ⊥) → w ≡ b

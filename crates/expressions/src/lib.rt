@@ -1,6 +1,7 @@
 // Expressions in prefix order.
 ghost use mathlib.Core.Path.{_≡_};
-ghost use Prim.Native.Nat.{_≤_, _<_};
+ghost use Prim.Native.Nat.{_^_, _/_, _%_, _≤_, _<_};
+ghost use lib.Dec.{eqb};
 ghost use lib.ListN.{length};
 ghost use Rattle.rules.specs.Relations.{setLimit};
 ghost use Rattle.rules.specs.Descriptions.{mostExpressionWords};
@@ -18,9 +19,6 @@ pub enum Expression {
 // How many codes there are.
 const CODES: usize = 8;
 
-// How many operands each code takes: none where it stands for a set.
-const OPERANDS: [u8; CODES] = [0, 0, 0, 0, 2, 2, 1, 1];
-
 // The set that each code stands for; nothing for an operator.
 const SETS: [u8; CODES] = [
     relations::E,
@@ -33,18 +31,26 @@ const SETS: [u8; CODES] = [
     0, // inverse
 ];
 
-// The code of union; the other operator with two operands is intersection.
+// The codes of the operators: union and intersection have two operands, complement and inverse one.
 const UNION: usize = 4;
 
-// The code of complement; the other operator with one operand is inverse.
+const INTERSECTION: usize = 5;
+
 const COMPLEMENT: usize = 6;
 
-// How many operands a code takes.
-fn operands(word: usize) -> u8
-    requires { ⌜ word < length codes ⌝ }
-    ensures { λ n. ⌜ n ≡ operands (code word) ⌝ }
+const INVERSE: usize = 7;
+
+// The codes with one operand, and all codes with operands, as bits: a test of a bit is quicker than a table in memory.
+const ONE_OPERAND: u32 = (1 << COMPLEMENT) + (1 << INVERSE);
+
+const OPERATORS: u32 = ONE_OPERAND + (1 << UNION) + (1 << INTERSECTION);
+
+// Tells whether a code is among some codes, each of which has its bit.
+fn among(some: u32, word: usize) -> bool
+    requires { ⌜ word < 32 ⌝ }
+    ensures { λ b. ⌜ b ≡ eqb (some / 2 ^ word % 2) 1 ⌝ }
 {
-    OPERANDS[word]
+    (some >> word) % 2 == 1
 }
 
 // The set that a code without operands stands for.
@@ -91,14 +97,13 @@ pub fn evaluate(words: &[u16]) -> Expression
     if CODES <= word {
         return Expression::Malformed;
     }
-    let n = operands(word);
-    if n == 0 {
+    if !among(OPERATORS, word) {
         return Expression::Set(set_of(word), words.len() - 1);
     }
     let Expression::Set(x, left) = evaluate(&words[1..]) else {
         return Expression::Malformed;
     };
-    if n == 1 {
+    if among(ONE_OPERAND, word) {
         return Expression::Set(apply_one(word, x), left);
     }
     let second = words.len() - left;

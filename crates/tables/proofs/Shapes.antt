@@ -2,9 +2,10 @@
 use mathlib.Core.Path.{_≡_, sym, ap, _∙_}
 use mathlib.Core.Bool.{Bool, true, false, _&&_}
 use mathlib.Core.List.{List}
-use Prim.Native.Nat.{ℕ, _*_, _≤_, _<_}
+use Prim.Native.Nat.{ℕ, _+_, _*_, _≤_, _<_}
 use native.Mathlib.Nat.{mul-le-mul-right}
 use native.Mathlib.Omega.{arith}
+use borrow.Author.Count.{below-more}
 use borrow.Author.Tests.{eq-eqb, ne-eqb}
 use lib.Dec.{eqb, ltb, lt→ltb, ltb→lt}
 use lib.ListN.{length, getD, take, replicate, length-replicate}
@@ -33,18 +34,33 @@ module _ {v : ℕ} {t r : List ℕ} (ready : Ready v t) (room : r ≡ replicate 
 
 -- ---- each cell is a set
 
-module _ (t : List ℕ) where
-  pub sets-each : ((k : ℕ) → k < length t → getD t k 0 ≤ 15) → true ≡ eachOf (λ x. ltb x setLimit) t
-  unfolding relations
-  sets-each f =
-      sym (T-true {b = eachOf (λ x. ltb x setLimit) t} (each-of-places (λ x. ltb x setLimit) t (λ k l. lt→ltb (getD t k 0) setLimit (omega (arith, f k l)))))
+-- what a test of the first i cells tells: that each is a set, or that some cell is none
+abbrev pub SetsTo : List ℕ → ℕ → Bool → Type 0
+SetsTo t i true = (k : ℕ) → k < i → getD t k 0 ≤ 15
+SetsTo t i false = (k : ℕ) × (k < i) × (15 < getD t k 0)
 
-  pub sets-none : (k : ℕ) → k < length t → 15 < getD t k 0 → false ≡ eachOf (λ x. ltb x setLimit) t
+module _ (t : List ℕ) where
+  pub sets-start : SetsTo t 0 true
+  sets-start k h = let z : ⊥ = omega arith in absurd z
+
+  pub sets-more : (i : ℕ) (b : Bool) → SetsTo t i b → getD t i 0 ≤ 15 → SetsTo t (i + 1) b
+  sets-more i true f h = below-more (λ k. getD t k 0 ≤ 15) i f h
+  sets-more i false f h = (f .0, omega (arith, f .1), f .2)
+
+  pub sets-not : (i : ℕ) → 15 < getD t i 0 → SetsTo t (i + 1) false
+  sets-not i h = (i, omega arith, h)
+
+  pub sets-told : (i : ℕ) → i ≤ length t → length t ≤ i → (b : Bool) → SetsTo t i b → b ≡ eachOf (λ x. ltb x setLimit) t
   unfolding relations
-  sets-none k l h =
+  sets-told i most least true f =
+      sym (T-true {b = eachOf (λ x. ltb x setLimit) t}
+      (each-of-places (λ x. ltb x setLimit) t (λ k l. lt→ltb (getD t k 0) setLimit (omega (arith, f k (omega arith))))))
+  sets-told i most least false f =
+      let k = f .0 in
       sym (T-false {b = eachOf (λ x. ltb x setLimit) t}
-      (λ a. let m : getD t k 0 < setLimit = ltb→lt (getD t k 0) setLimit (each-of-out (λ x. ltb x setLimit) t a (getD t k 0) (member-at t k l)) in
-      omega (arith, h)))
+      (λ a.
+      let m : getD t k 0 < setLimit = ltb→lt (getD t k 0) setLimit (each-of-out (λ x. ltb x setLimit) t a (getD t k 0) (member-at t k (omega (arith, f .1)))) in
+      omega (arith, f .2)))
 
   -- ---- the number of cells
 

@@ -29,16 +29,17 @@ pub fn fill(table: &mut [u8], set: u8)
     }
 }
 
-// Tells whether each cell is a set.
+// Tells whether each cell is a set. The loop has no way out, so that a processor can take many cells at once.
 fn sets_only(table: &[u8]) -> bool
     ensures { λ b. ⌜ b ≡ eachOf (λ x. ltb x setLimit) (now (table .entry)) ⌝ }
 {
+    let mut sets = true;
     for i in 0..table.len() {
         if relations::FULL < table[i] {
-            return false;
+            sets = false;
         }
     }
-    true
+    sets
 }
 
 // Tells whether the table has a cell for each two of v boards, and each cell is a set.

@@ -1,8 +1,10 @@
 -- The proof of the cycle of calls {evaluate}: it calls itself on the words left, whose number is the measure. Assumes nothing.
-use Prim.Native.Nat.{ℕ, _-_, _<_}
+use mathlib.Core.Bool.{true, false}
+use Prim.Native.Nat.{ℕ, _+_, _-_, _/_, _%_, _^_, _<_}
 use native.Mathlib.Nat.{pos-of-ne-zero, le-of-lt}
 use native.Mathlib.Omega.{arith}
 use borrow.Author.Needs.{needs}
+use borrow.Author.Tests.{eqb-true, eqb-false, not-true, not-false}
 use lib.ListN.{length, getD, take, drop}
 use mathlib.Core.Path.{_≡_, sym, ap, subst, _∙_}
 use mathlib.Core.List.{List}
@@ -20,9 +22,9 @@ use Rattle.expressions.proofs.+evaluate.Lts-evaluate as evaluate-lts
 use Rattle.answers.proofs.widths.word_number.Reads as word-number-reads
 use Rattle.expressions.proofs.apply_one.Reads as apply-one-reads
 use Rattle.expressions.proofs.apply_two.Reads as apply-two-reads
-use Rattle.expressions.proofs.operands.Reads as operands-reads
+use Rattle.expressions.proofs.among.Reads as among-reads
 use Rattle.expressions.proofs.set_of.Reads as set-of-reads
-use Rattle.expressions.proofs.Codes.{is-one, is-two, no-code, at-most-two}
+use Rattle.expressions.proofs.Codes.{is-one, is-two, no-code, operands-marked}
 use Rattle.expressions.proofs.Evaluation as evaluation
 use Rattle.expressions.proofs.+evaluate.{statement}
 use Rattle.expressions.proofs.+evaluate.Tie.{close}
@@ -41,8 +43,8 @@ abbrev calls : ℕ → evaluate-lts.Claims
 calls t = (
   word-number-reads.Asked,
   word-number-reads.Learnt,
-  operands-reads.Asked,
-  operands-reads.Learnt,
+  among-reads.Asked,
+  among-reads.Learnt,
   set-of-reads.Asked,
   set-of-reads.Learnt,
   evaluate-below t,
@@ -57,19 +59,22 @@ calls t = (
 lent : (k : ℕ) (ws : List ℕ) (e : Expression) → evaluation.Finds (take (length ws - k) (drop k ws)) e → evaluation.Finds (drop k ws) e
 lent k ws e f = subst (λ (us : List ℕ). evaluation.Finds us e) (tail k ws) f
 
--- where the first word is read; where it is a code, and an operator; where the first operand is there, and is not the only one; and where the
--- second is there
+-- where the first word is read; where it is a code, and an operator; where the first operand is there, where it is told whether it is the only one,
+-- and where it is not; and where the second is there
 abbrev AtWord : ℕ → Type 0
 AtWord t = evaluate-lts.After-word-number (calls t) (evaluate-at t) evaluate.Post
 
 abbrev AtCode : ℕ → Type 0
-AtCode t = evaluate-lts.After-operands (calls t) (evaluate-at t) evaluate.Post
+AtCode t = evaluate-lts.After-among (calls t) (evaluate-at t) evaluate.Post
 
 abbrev AtOperator : ℕ → Type 0
 AtOperator t = evaluate-lts.Else3 (calls t) (evaluate-at t) evaluate.Post
 
 abbrev AtFirst : ℕ → Type 0
 AtFirst t = evaluate-lts.After-known-told (calls t) (evaluate-at t) evaluate.Post
+
+abbrev AtChosen : ℕ → Type 0
+AtChosen t = evaluate-lts.After-among2 (calls t) (evaluate-at t) evaluate.Post
 
 abbrev AtTwo : ℕ → Type 0
 AtTwo t = evaluate-lts.Else4 (calls t) (evaluate-at t) evaluate.Post
@@ -95,15 +100,22 @@ module _ (t : ℕ) (c : AtCode t) where
   unfolding codes
   listed = c .before .if2 .left
 
-  takes : (n : ℕ) → c .operands .result ≡ n → operands (code word) ≡ n
-  takes n e = sym (c .operands .ensures) ∙ e
+  -- how many operands it takes: none, or two less the bit of the codes with one
+  takes-none : c .among .result ≡ false → operands (code word) ≡ 0
+  takes-none e = omega (arith, operands-marked word listed, eqb-false (240 / 2 ^ word % 2) 1 (sym (c .among .ensures) ∙ e))
+
+  takes-marked : c .among .result ≡ true → operands (code word) + 192 / 2 ^ word % 2 ≡ 2
+  takes-marked e = omega (arith, operands-marked word listed, eqb-true (240 / 2 ^ word % 2) 1 (sym (c .among .ensures) ∙ e))
 
 takes-some : (t : ℕ) (c : AtOperator t) → operands (code (word t (c .before))) ≡ 0 → ⊥
-takes-some t c e = c .if3 .left (c .before .operands .ensures ∙ e)
+takes-some t c e = let z : ⊥ = omega (arith, takes-marked t (c .before) (not-false _ (c .if3 .left))) in z
 
 module _ (t : ℕ) (c : AtFirst t) where
+  abbrev operator : AtOperator t
+  operator = c .before .before .before .before .before
+
   abbrev before-first : AtCode t
-  before-first = c .before .before .before .before .before .before
+  before-first = operator .before
 
   abbrev all : List ℕ
   all = words t (before-first .before .before)
@@ -122,18 +134,28 @@ module _ (t : ℕ) (c : AtFirst t) where
   second-within : left < length all
   second-within = evaluation.second-at all (some t (before-first .before .before)) _ _ first .0
 
-takes-two : (t : ℕ) (c : AtTwo t) → operands (code (word t (before-first t (c .before)))) ≡ 2
-takes-two t c = let at = before-first t (c .before) in omega (arith, at-most-two (word t at) (listed t at))
+module _ (t : ℕ) (c : AtChosen t) where
+  abbrev chosen : ℕ
+  chosen = word t (before-first t (c .before))
+
+  takes-chosen : operands (code chosen) + 192 / 2 ^ chosen % 2 ≡ 2
+  takes-chosen = takes-marked t (before-first t (c .before)) (not-false _ (operator t (c .before) .if3 .left))
+
+  takes-one : c .among2 .result ≡ true → operands (code chosen) ≡ 1
+  takes-one e = omega (arith, takes-chosen, eqb-true (192 / 2 ^ chosen % 2) 1 (sym (c .among2 .ensures) ∙ e))
+
+  takes-two : c .among2 .result ≡ false → operands (code chosen) ≡ 2
+  takes-two e = omega (arith, takes-chosen, eqb-false (192 / 2 ^ chosen % 2) 1 (sym (c .among2 .ensures) ∙ e))
 
 module _ (t : ℕ) (c : AtSecond t) where
   abbrev before-second : AtTwo t
   before-second = c .before .before .before .before .before
 
   abbrev second-start : ℕ
-  second-start = length (all t (before-second .before)) - left t (before-second .before)
+  second-start = length (all t (before-second .before .before)) - left t (before-second .before .before)
 
-  second : evaluation.Finds (drop second-start (all t (before-second .before))) (Set (c .before .y .given .0 .0) (c .before .y .given .0 .1 .0))
-  second = lent second-start (all t (before-second .before)) _ (sym (c .before .y .given .1) ∙ c .before .before .before .evaluate2 .ensures)
+  second : evaluation.Finds (drop second-start (all t (before-second .before .before))) (Set (c .before .y .given .0 .0) (c .before .y .given .0 .1 .0))
+  second = lent second-start (all t (before-second .before .before)) _ (sym (c .before .y .given .1) ∙ c .before .before .before .evaluate2 .ensures)
 
   second-small : c .before .y .given .0 .0 < setLimit
   second-small = evaluation.operand _ _ _ second .small
@@ -152,12 +174,11 @@ unfolding codes
 evaluate-returns-2 t c =
     evaluation.finds-unknown (words t (c .before)) (some t (c .before)) (front t (c .before) ∙ no-code (c .before .word-number .result) (c .if2 .taken))
 
-evaluate-operands-requires : (t : ℕ) → evaluate-lts.Need-operands-requires (calls t) (evaluate-at t) evaluate.Post
-unfolding codes
-evaluate-operands-requires t c = λ _. c .if2 .left
+evaluate-among-requires : (t : ℕ) → evaluate-lts.Need-among-requires (calls t) (evaluate-at t) evaluate.Post
+evaluate-among-requires t c = λ _. omega (arith, c .if2 .left)
 
 evaluate-set-of-requires : (t : ℕ) → evaluate-lts.Need-set-of-requires (calls t) (evaluate-at t) evaluate.Post
-evaluate-set-of-requires t c = λ _. (listed t (c .before), takes t (c .before) 0 (c .if3 .taken))
+evaluate-set-of-requires t c = λ _. (listed t (c .before), takes-none t (c .before) (not-true _ (c .if3 .taken)))
 
 evaluate-sub-t15 : (t : ℕ) → evaluate-lts.Need-sub-t15 (calls t) (evaluate-at t) evaluate.Post
 evaluate-sub-t15 t c = pos-of-ne-zero (some t (c .before .before .before .before))
@@ -196,19 +217,23 @@ evaluate-returns-4 t c =
     evaluation.finds-no-first (words t head) (some t head) _ (front t head) (takes-some t operator)
     (lent 1 (words t head) Malformed (sym (c .enum-told .given .1) ∙ c .before .before .evaluate .ensures))
 
+evaluate-among-requires-2 : (t : ℕ) → evaluate-lts.Need-among-requires-2 (calls t) (evaluate-at t) evaluate.Post
+evaluate-among-requires-2 t c = λ _. omega (arith, before-first t c .before .if2 .left)
+
 evaluate-apply-one-requires : (t : ℕ) → evaluate-lts.Need-apply-one-requires (calls t) (evaluate-at t) evaluate.Post
 evaluate-apply-one-requires t c =
-    λ _. (listed t (before-first t (c .before)), takes t (before-first t (c .before)) 1 (c .if4 .taken), first-small t (c .before))
+    let at = c .before .before in
+    λ _. (listed t (before-first t at), takes-one t (c .before) (c .if4 .taken), first-small t at)
 
 evaluate-returns-5 : (t : ℕ) → evaluate-lts.Need-returns-5 (calls t) (evaluate-at t) evaluate.Post
 evaluate-returns-5 t c =
-    let at = c .before .before in
+    let at = c .before .before .before in
     let head = before-first t at .before .before in
     rw (c .apply-one .ensures)
-    (evaluation.finds-one (words t head) (some t head) _ _ (first t at) _ (front t head ∙ is-one _ (takes t (before-first t at) 1 (c .before .if4 .taken))))
+    (evaluation.finds-one (words t head) (some t head) _ _ (first t at) _ (front t head ∙ is-one _ (takes-one t (c .before .before) (c .before .if4 .taken))))
 
 evaluate-sub-second : (t : ℕ) → evaluate-lts.Need-sub-second (calls t) (evaluate-at t) evaluate.Post
-evaluate-sub-second t c = le-of-lt (second-within t (c .before))
+evaluate-sub-second t c = le-of-lt (second-within t (c .before .before))
 
 evaluate-mul-evaluate : (t : ℕ) → evaluate-lts.Need-mul-evaluate (calls t) (evaluate-at t) evaluate.Post
 evaluate-mul-evaluate t c = search needs
@@ -224,7 +249,7 @@ evaluate-part-evaluate-end-2 t c = search needs
 
 evaluate-evaluate-requires-2 : (t : ℕ) → evaluate-lts.Need-evaluate-requires-2 (calls t) (evaluate-at t) evaluate.Post
 evaluate-evaluate-requires-2 t c =
-    let at = c .before .before in
+    let at = c .before .before .before in
     let start = before-first t at .before .before .before .before .before .before in
     let l = tail-length (length (start .args .words .now) - left t at) (start .args .words .now) in
     λ _. (omega (arith, start .pre .0, second-within t at), omega (arith, start .pre .1))
@@ -238,23 +263,24 @@ evaluate-enum-told-2 t c = search needs
 evaluate-returns-6 : (t : ℕ) → evaluate-lts.Need-returns-6 (calls t) (evaluate-at t) evaluate.Post
 evaluate-returns-6 t c =
     let last = c .before .before .before .before in
-    let at = last .before in
+    let at = last .before .before in
     let head = before-first t at .before .before in
-    evaluation.finds-no-second (words t head) (some t head) _ _ (first t at) _ (front t head ∙ is-two _ (takes-two t last))
+    evaluation.finds-no-second (words t head) (some t head) _ _ (first t at) _ (front t head ∙ is-two _ (takes-two t (last .before) (last .if4 .left)))
     (lent (length (words t head) - left t at) (words t head) Malformed (sym (c .enum-told2 .given .1) ∙ c .before .before .evaluate2 .ensures))
 
 evaluate-apply-two-requires : (t : ℕ) → evaluate-lts.Need-apply-two-requires (calls t) (evaluate-at t) evaluate.Post
 evaluate-apply-two-requires t c =
     let last = before-second t c in
-    λ _. (listed t (before-first t (last .before)), takes-two t last, first-small t (last .before), second-small t c)
+    let at = last .before .before in
+    λ _. (listed t (before-first t at), takes-two t (last .before) (last .if4 .left), first-small t at, second-small t c)
 
 evaluate-returns-7 : (t : ℕ) → evaluate-lts.Need-returns-7 (calls t) (evaluate-at t) evaluate.Post
 evaluate-returns-7 t c =
     let last = before-second t (c .before) in
-    let at = last .before in
+    let at = last .before .before in
     let head = before-first t at .before .before in
     rw (c .apply-two .ensures)
-    (evaluation.finds-two (words t head) (some t head) _ _ (first t at) _ _ (second t (c .before)) _ (front t head ∙ is-two _ (takes-two t last)))
+    (evaluation.finds-two (words t head) (some t head) _ _ (first t at) _ _ (second t (c .before)) _ (front t head ∙ is-two _ (takes-two t (last .before) (last .if4 .left))))
 
 pub +evaluate-spec : {M : Type 1} → statement M
 +evaluate-spec =
@@ -263,7 +289,7 @@ pub +evaluate-spec : {M : Type 1} → statement M
     (evaluate-shared-slice-read-word-number t)
     (evaluate-word-number-requires t)
     (evaluate-returns-2 t)
-    (evaluate-operands-requires t)
+    (evaluate-among-requires t)
     (evaluate-set-of-requires t)
     (evaluate-sub-t15 t)
     (evaluate-returns-3 t)
@@ -274,6 +300,7 @@ pub +evaluate-spec : {M : Type 1} → statement M
     (evaluate-enum-known-x t)
     (evaluate-enum-told t)
     (evaluate-returns-4 t)
+    (evaluate-among-requires-2 t)
     (evaluate-apply-one-requires t)
     (evaluate-returns-5 t)
     (evaluate-sub-second t)

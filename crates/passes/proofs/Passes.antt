@@ -200,13 +200,16 @@ module _ {v : ℕ} where
   pub kept-determined : {rs : List Rule} {t u w : List ℕ} {a b c : ℕ} → u ≡ w → Kept v rs t a u b → Kept v rs t a w c → b ≡ c
   kept-determined e f g = let i = f .counted in let j = g .counted in let same = ap total e in omega arith
 
-  -- by bounds that stay, what is left is fixed too: the largest table inside t in which the rules strike nothing
+  -- where the rules strike nothing more, what is left is fixed too: the largest table inside t in which they strike nothing
+  pub idle-determined : {rs : List Rule} {t u w : List ℕ} {a b c : ℕ} → Kept v rs t a u b → Idles v rs u → Kept v rs t a w c → Idles v rs w
+      → (u ≡ w) × (b ≡ c)
+  idle-determined {u = u} {w = w} f i g j =
+      let e : u ≡ w = inside-antisym (f .table) (g .table) (g .keeps u (f .inside) i) (f .keeps w (g .inside) j) in
+      (e, kept-determined e f g)
+
   pub once-determined : {rs : List Rule} {t u w : List ℕ} {a b c : ℕ} → Once v rs t a u b → Once v rs t a w c → (u ≡ w) × (b ≡ c)
-  once-determined {rs} {t} {u} {w} {a} {b} {c} f g =
-      let e : u ≡ w =
-      inside-antisym (f .kept .table) (g .kept .table) (g .kept .keeps u (f .kept .inside) (f .held u (inside-refl u)))
-      (f .kept .keeps w (g .kept .inside) (g .held w (inside-refl w))) in
-      (e, kept-determined e (f .kept) (g .kept))
+  once-determined {u = u} {w = w} f g =
+      idle-determined (f .kept) (f .held u (inside-refl u)) (g .kept) (g .held w (inside-refl w))
 
   -- ---- a site that is not too large: its places, its counts
 

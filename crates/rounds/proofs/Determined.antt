@@ -5,9 +5,8 @@ use Prim.Native.Nat.{ℕ}
 use lib.Dec.{T-not}
 use Rattle.rules.specs.Tables.{emptied}
 use Rattle.rules.specs.Closing.{Rule}
-use Rattle.rules.proofs.Inside.{inside-antisym}
 use Rattle.passes.specs.Passes.{Clash}
-use Rattle.passes.proofs.Passes.{kept-determined}
+use Rattle.passes.proofs.Passes.{idle-determined}
 use Rattle.contracts.specs.Contracts.{OfTwo}
 use Rattle.sweeps.specs.declared.Swept.{Swept}
 use Rattle.sweeps.specs.declared.Swept.the-variants.{Struck, Emptied}
@@ -20,17 +19,11 @@ abbrev pub Fixed : Swept → Swept → List ℕ → List ℕ → Type 0
 Fixed q r u w = (q ≡ r) × ((q ≡ Emptied → ⊥) → u ≡ w)
 
 module _ {v : ℕ} {rs : List Rule} {t : List ℕ} where
-  -- what the rules leave when they strike nothing more is the largest such table inside t
-  settled-determined : {u w : List ℕ} {m n : ℕ} → Settled v rs t u m → Settled v rs t w n → (u ≡ w) × (m ≡ n)
-  settled-determined {u} {w} k l =
-      let e : u ≡ w = inside-antisym (k .kept .table) (l .kept .table) (l .kept .keeps u (k .kept .inside) (k .idle)) (k .kept .keeps w (l .kept .inside) (l .idle)) in
-      (e, kept-determined e (k .kept) (l .kept))
-
   settled-unclashed : {u : List ℕ} {m : ℕ} → Settled v rs t u m → Clash v rs t → ⊥
   settled-unclashed {u} k f = T-not (emptied u) (k .filled) (f u (k .kept .table) (k .kept .inside) (k .idle))
 
 one-outcome : (v : ℕ) (rs : List Rule) (t u w : List ℕ) (q r : Swept) → afterRounds v rs t u q → afterRounds v rs t w r → Fixed q r u w
-one-outcome v rs t u w (Struck m) (Struck n) k l = let d = settled-determined k l in (ap Struck (d .1), λ z. d .0)
+one-outcome v rs t u w (Struck m) (Struck n) k l = let d = idle-determined (k .kept) (k .idle) (l .kept) (l .idle) in (ap Struck (d .1), λ z. d .0)
 one-outcome v rs t u w (Struck m) Emptied k f = absurd (settled-unclashed k f)
 one-outcome v rs t u w Emptied (Struck n) f l = absurd (settled-unclashed l f)
 one-outcome v rs t u w Emptied Emptied f g = (refl, λ z. absurd (z refl))

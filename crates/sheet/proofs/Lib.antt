@@ -1,5 +1,4 @@
 -- The laws behind the functions of this crate.
-pub mod Fronts
 pub mod Filled
 pub mod Described
 pub mod Wholes

@@ -4,8 +4,8 @@ mod sections;
 ghost use mathlib.Core.Path.{_≡_};
 ghost use Rattle.sheet.specs.Found.{descriptionFound};
 use crate::sections::SectionFound;
-use crate::sections::Sort;
-use crate::sections::read_section;
+use crate::sections::kind_section;
+use crate::sections::relation_section;
 use headers::HeaderFound;
 
 // Reads a whole description: its header, once every line has been read, or the first refusal.
@@ -18,8 +18,7 @@ pub fn description(words: &[u16]) -> HeaderFound
     };
     let boards = h.boards;
     let kinds_at = h.kinds.at;
-    let lines = read_section(
-        Sort::Relations,
+    let lines = relation_section(
         boards,
         h.lines.count,
         &words[answers::limits::HEADER_WORDS..kinds_at],
@@ -27,7 +26,7 @@ pub fn description(words: &[u16]) -> HeaderFound
     if let SectionFound::Refused(r) = lines {
         return HeaderFound::Refused(r);
     }
-    let kinds = read_section(Sort::Kinds, boards, h.kinds.count, &words[kinds_at..]);
+    let kinds = kind_section(boards, h.kinds.count, &words[kinds_at..]);
     if let SectionFound::Refused(r) = kinds {
         return HeaderFound::Refused(r);
     }

@@ -21,29 +21,29 @@ returns c =
     let start = c .before .before .before .before .before in
     description-unheaded (start .args .words .now) _ (sym (c .before .r .given .1) ∙ c .before .before .before .read-header .ensures)
 
-sub-read-section : tie.Need-sub-read-section
-sub-read-section c =
+sub-relation-section : tie.Need-sub-relation-section
+sub-relation-section c =
     let start = c .before .before .before .before .before in
     let head = c .before in
     let h = headed (start .args .words .now) _ (sym (head .h .given .1) ∙ head .before .before .read-header .ensures) in
     kinds-after (start .args .words .now) h
 
-part-read-section-start : tie.Need-part-read-section-start
-part-read-section-start c =
+part-relation-section-start : tie.Need-part-relation-section-start
+part-relation-section-start c =
     let start = c .before .before .before .before .before in
     let head = c .before in
     let h = headed (start .args .words .now) _ (sym (head .h .given .1) ∙ head .before .before .read-header .ensures) in
     kinds-after (start .args .words .now) h
 
-part-read-section-end : tie.Need-part-read-section-end
-part-read-section-end c =
+part-relation-section-end : tie.Need-part-relation-section-end
+part-relation-section-end c =
     let start = c .before .before .before .before .before in
     let head = c .before in
     let h = headed (start .args .words .now) _ (sym (head .h .given .1) ∙ head .before .before .read-header .ensures) in
     kinds-within (start .args .words .now) h
 
-read-section-requires : tie.Need-read-section-requires
-read-section-requires c κs = search needs
+relation-section-requires : tie.Need-relation-section-requires
+relation-section-requires c κs = search needs
 
 enum-known-lines : tie.Need-enum-known-lines
 enum-known-lines c = search needs
@@ -53,38 +53,38 @@ returns-2 c =
     let start = c .before .before .before .before .before .before .before .before .before .before in
     let head = c .before .before .before .before .before .before in
     let h = headed (start .args .words .now) _ (sym (head .h .given .1) ∙ head .before .before .read-header .ensures) in
-    description-no-lines (start .args .words .now) h _ (relation-part (start .args .words .now) h _ (sym (c .before .lines .given .1) ∙ c .before .before .before .read-section .ensures))
+    description-no-lines (start .args .words .now) h _ (relation-part (start .args .words .now) h _ (sym (c .before .lines .given .1) ∙ c .before .before .before .relation-section .ensures))
 
 enum-told : tie.Need-enum-told
 enum-told c = search needs
 
-mul-read-section : tie.Need-mul-read-section
-mul-read-section c =
+mul-kind-section : tie.Need-mul-kind-section
+mul-kind-section c =
     let start = c .before .before .before .before .before .before .before .before .before in
     let head = c .before .before .before .before .before in
     let h = headed (start .args .words .now) _ (sym (head .h .given .1) ∙ head .before .before .read-header .ensures) in
     let l : head .h .given .0 .0 .kinds .at ≤ length (start .args .words .now) = kinds-within (start .args .words .now) h in
     search needs
 
-sub-read-section-2 : tie.Need-sub-read-section-2
-sub-read-section-2 c =
+sub-kind-section : tie.Need-sub-kind-section
+sub-kind-section c =
     let start = c .before .before .before .before .before .before .before .before .before in
     let head = c .before .before .before .before .before in
     let h = headed (start .args .words .now) _ (sym (head .h .given .1) ∙ head .before .before .read-header .ensures) in
     kinds-within (start .args .words .now) h
 
-part-read-section-start-2 : tie.Need-part-read-section-start-2
-part-read-section-start-2 c =
+part-kind-section-start : tie.Need-part-kind-section-start
+part-kind-section-start c =
     let start = c .before .before .before .before .before .before .before .before .before in
     let head = c .before .before .before .before .before in
     let h = headed (start .args .words .now) _ (sym (head .h .given .1) ∙ head .before .before .read-header .ensures) in
     kinds-within (start .args .words .now) h
 
-part-read-section-end-2 : tie.Need-part-read-section-end-2
-part-read-section-end-2 c = search needs
+part-kind-section-end : tie.Need-part-kind-section-end
+part-kind-section-end c = search needs
 
-read-section-requires-2 : tie.Need-read-section-requires-2
-read-section-requires-2 c κs = search needs
+kind-section-requires : tie.Need-kind-section-requires
+kind-section-requires c κs = search needs
 
 enum-known-kinds : tie.Need-enum-known-kinds
 enum-known-kinds c = search needs
@@ -96,8 +96,8 @@ returns-3 c =
     let h = headed (start .args .words .now) _ (sym (head .h .given .1) ∙ head .before .before .read-header .ensures) in
     let lines = c .before .before .before .before .before in
     description-no-kinds (start .args .words .now) h
-    (relation-part (start .args .words .now) h _ (sym (lines .enum-told .given .1) ∙ lines .before .before .read-section .ensures)) _
-    (kind-part (start .args .words .now) h _ (sym (c .before .kinds .given .1) ∙ c .before .before .before .read-section2 .ensures))
+    (relation-part (start .args .words .now) h _ (sym (lines .enum-told .given .1) ∙ lines .before .before .relation-section .ensures)) _
+    (kind-part (start .args .words .now) h _ (sym (c .before .kinds .given .1) ∙ c .before .before .before .kind-section .ensures))
 
 enum-told-2 : tie.Need-enum-told-2
 enum-told-2 c = search needs
@@ -109,8 +109,8 @@ returns-4 c =
     let h = headed (start .args .words .now) _ (sym (head .h .given .1) ∙ head .before .before .read-header .ensures) in
     let lines = c .before .before .before .before in
     description-read (start .args .words .now) h
-    (relation-part (start .args .words .now) h _ (sym (lines .enum-told .given .1) ∙ lines .before .before .read-section .ensures))
-    (kind-part (start .args .words .now) h _ (sym (c .enum-told2 .given .1) ∙ c .before .before .read-section2 .ensures))
+    (relation-part (start .args .words .now) h _ (sym (lines .enum-told .given .1) ∙ lines .before .before .relation-section .ensures))
+    (kind-part (start .args .words .now) h _ (sym (c .enum-told2 .given .1) ∙ c .before .before .kind-section .ensures))
 
 pub description-spec : {M : Type 1} → statement M
 description-spec =
@@ -120,18 +120,18 @@ description-spec =
     enum-known-h
     enum-known-r
     returns
-    sub-read-section
-    part-read-section-start
-    part-read-section-end
-    read-section-requires
+    sub-relation-section
+    part-relation-section-start
+    part-relation-section-end
+    relation-section-requires
     enum-known-lines
     returns-2
     enum-told
-    mul-read-section
-    sub-read-section-2
-    part-read-section-start-2
-    part-read-section-end-2
-    read-section-requires-2
+    mul-kind-section
+    sub-kind-section
+    part-kind-section-start
+    part-kind-section-end
+    kind-section-requires
     enum-known-kinds
     returns-3
     enum-told-2

@@ -1,0 +1,100 @@
+-- `relation_section` meets its contract: from each line on, the section comes to what it comes to from the start. The measure is the lines
+-- left. Assumes nothing.
+use borrow.Author.Needs.{needs}
+use mathlib.Core.Path.{sym, _∙_}
+use native.Mathlib.Omega.{arith}
+use Rattle.rules.specs.Descriptions.{relationLine}
+use Rattle.rules.proofs.Lines.{relation-suffix}
+use Rattle.rules.proofs.Walks.{Walk, walk-start}
+use Rattle.lines.proofs.Fronts.{relation-line-out, relation-refused-out}
+use Rattle.sheet.proofs.Filled.{found-refused, found-next, found-end}
+use Rattle.sheet.proofs.sections.relation_section.Statement.{statement}
+use Rattle.sheet.proofs.sections.relation_section.Tie as tie
+
+abbrev Inv-loop : tie.InvT-loop
+Inv-loop v count words at₀ left₀ at left = Walk (relationLine v) count words at left
+
+abbrev μ-loop : tie.MeasureT-loop
+μ-loop v count words at₀ left₀ at left = left
+
+loop-holds : tie.Need-loop-holds Inv-loop μ-loop
+loop-holds c = walk-start _ _ _
+
+mul-relation-line : tie.Need-mul-relation-line Inv-loop μ-loop
+mul-relation-line c = search needs
+
+sub-relation-line : tie.Need-sub-relation-line Inv-loop μ-loop
+sub-relation-line c = c .before .loop .inv .within
+
+part-relation-line-start : tie.Need-part-relation-line-start Inv-loop μ-loop
+part-relation-line-start c = search needs
+
+part-relation-line-end : tie.Need-part-relation-line-end Inv-loop μ-loop
+part-relation-line-end c = search needs
+
+relation-line-requires : tie.Need-relation-line-requires Inv-loop μ-loop
+relation-line-requires c κs = search needs
+
+enum-known-rest : tie.Need-enum-known-rest Inv-loop μ-loop
+enum-known-rest c = search needs
+
+enum-known-r : tie.Need-enum-known-r Inv-loop μ-loop
+enum-known-r c = search needs
+
+returns : tie.Need-returns Inv-loop μ-loop
+returns c =
+    let test = c .before .before .before .before .before in
+    found-refused (test .before .loop .inv) (test .loop-test .taken)
+    (relation-refused-out _ _ (sym (c .before .r .given .1) ∙ c .before .before .before .relation-line .ensures))
+
+sub-at : tie.Need-sub-at Inv-loop μ-loop
+sub-at c =
+    let test = c .before .before .before .before .before in
+    let args = test .before .before .before .args in
+    found-next (test .before .loop .inv) (test .loop-test .taken) (relation-suffix (args .v))
+    (relation-line-out _ _ _ (sym (c .before .rest .given .1) ∙ c .before .before .before .relation-line .ensures)) .0
+
+sub-left : tie.Need-sub-left Inv-loop μ-loop
+sub-left c = omega arith
+
+loop-less : tie.Need-loop-less Inv-loop μ-loop
+loop-less c = omega arith
+
+loop-again : tie.Need-loop-again Inv-loop μ-loop
+loop-again c =
+    let test = c .before .before .before .before .before in
+    let args = test .before .before .before .args in
+    found-next (test .before .loop .inv) (test .loop-test .taken) (relation-suffix (args .v))
+    (relation-line-out _ _ _ (sym (c .before .rest .given .1) ∙ c .before .before .before .relation-line .ensures)) .1
+
+sub-ended : tie.Need-sub-ended Inv-loop μ-loop
+sub-ended c = c .before .loop .inv .within
+
+ended-requires : tie.Need-ended-requires Inv-loop μ-loop
+ended-requires c κs = search needs
+
+returns-2 : tie.Need-returns-2 Inv-loop μ-loop
+returns-2 c = c .ended .ensures ∙ found-end (c .before .before .loop .inv) (c .before .loop-test .left)
+
+pub relation-section-spec : {M : Type 1} → statement M
+relation-section-spec =
+    tie.close
+    (tie.spec
+    Inv-loop
+    μ-loop
+    loop-holds
+    mul-relation-line
+    sub-relation-line
+    part-relation-line-start
+    part-relation-line-end
+    relation-line-requires
+    enum-known-rest
+    enum-known-r
+    returns
+    sub-at
+    sub-left
+    loop-less
+    loop-again
+    sub-ended
+    ended-requires
+    returns-2)

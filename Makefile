@@ -1,5 +1,5 @@
 # make test: everything that is claimed, from nothing. The last line is the verdict, 'N passed, 0 failed'.
-.PHONY: test lib c_example fuzz bench
+.PHONY: test lib c_example fuzz bench count
 
 test:
 	@sh tests/run.sh
@@ -23,3 +23,7 @@ fuzz:
 # make bench: how long closings and searches take beside plain C versions of the same methods, and that both answer the same.
 bench: lib
 	@sh bench/run.sh
+
+# make count: how many instructions these take, which no load of the machine changes.
+count: lib
+	@sh bench/count.sh

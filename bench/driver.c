@@ -11,8 +11,8 @@
 
 enum {
     GROUPS = CLOSED_GROUPS + SEARCHED_GROUPS,
-    TURNS = 15,
-    LEAST_TURN_NS = 5000000,
+    TURNS = 5,
+    LEAST_TURN_NS = 2000000,
     BATCH = 48
 };
 
@@ -260,15 +260,48 @@ static double measure(const struct group *g)
         }
         ratio[turn] = product[turn] / plain[turn];
     }
-    double middle = median(ratio, TURNS);
-    printf("%-14s %6lu %12.1f %12.1f %8.3f\n", g->name, (unsigned long)g->count, median(product, TURNS), median(plain, TURNS), middle);
-    return middle;
+    double median_ratio = median(ratio, TURNS);
+    printf("%-14s %6lu %12.1f %12.1f %8.3f\n", g->name, (unsigned long)g->count, median(product, TURNS), median(plain, TURNS), median_ratio);
+    return median_ratio;
 }
 
-int main(void)
+/* ---- counting */
+
+/* Closes or searches each sheet of a group once. What is counted by bench/count.sh is what runs in here, so it is a function of its own. */
+__attribute__((noinline)) static void counted(work *call, const struct group *g)
 {
+    for (size_t i = 0; i < g->count; i++)
+        batch_answers[i] = call(&g->sheets[i], batch_tables[i]);
+}
+
+static void count(work *call, const struct group *g)
+{
+    for (size_t i = 0; i < g->count; i++)
+        memcpy(batch_tables[i], g->sheets[i].table, MOST_TABLE);
+    counted(call, g);
+}
+
+/* Has the calls of each group counted, the product's and then plain C's, and prints a line for each group, in the same order. */
+static void count_groups(void)
+{
+    for (size_t i = 0; i < GROUPS; i++) {
+        const struct group *g = &groups[i];
+        count(by_product[g->task], g);
+        count(by_plain[g->task], g);
+        printf("%-14s %6lu\n", g->name, (unsigned long)g->count);
+    }
+}
+
+/* Without words, checks and measures all groups; with a word, has their calls counted. */
+int main(int argc, char **argv)
+{
+    (void)argv;
     make_closed_groups(groups);
     make_searched_groups(groups + CLOSED_GROUPS);
+    if (argc > 1) {
+        count_groups();
+        return 0;
+    }
     for (size_t i = 0; i < CLOSED_GROUPS; i++)
         check_closed(&groups[i]);
     for (size_t i = CLOSED_GROUPS; i < GROUPS; i++)

@@ -138,10 +138,10 @@ static int read_header(const uint16_t *words, size_t n, struct header *h)
     h->boards = words[0];
     h->lines = words[1];
     h->kinds = words[2];
-    h->middle = words[4];
+    h->kinds_at = words[4];
     if (h->boards < 1 || h->boards > TALUNG_MOST_BOARDS || h->lines > MOST_LINES || h->kinds > MOST_KINDS)
         return TALUNG_OUT_OF_RANGE;
-    if (words[3] != HEADER_WORDS || h->middle < HEADER_WORDS || h->middle > words[5] || words[5] != n)
+    if (words[3] != HEADER_WORDS || h->kinds_at < HEADER_WORDS || h->kinds_at > words[5] || words[5] != n)
         return TALUNG_MISPLACED;
     return 0;
 }
@@ -196,10 +196,10 @@ static int read_description(const uint16_t *words, size_t n, struct header *h)
     int refusal = read_header(words, n, h);
     if (refusal)
         return refusal;
-    refusal = read_relation_lines(h->boards, h->lines, words + HEADER_WORDS, h->middle - HEADER_WORDS);
+    refusal = read_relation_lines(h->boards, h->lines, words + HEADER_WORDS, h->kinds_at - HEADER_WORDS);
     if (refusal)
         return refusal;
-    return read_kind_lines(h->boards, h->kinds, words + h->middle, n - h->middle);
+    return read_kind_lines(h->boards, h->kinds, words + h->kinds_at, n - h->kinds_at);
 }
 
 /* Narrows one cell to what the bound has too. Answers how many relations that struck. */
@@ -383,9 +383,9 @@ static int rounds(size_t v, size_t count, const uint16_t *words, uint8_t *cells)
 int close_cells(const struct header *h, const uint16_t *words, uint8_t *cells)
 {
     size_t v = h->boards;
-    const uint16_t *kinds = words + h->middle;
+    const uint16_t *kinds = words + h->kinds_at;
     int struck = rules1(v, cells);
-    struck += rules4(v, h->lines, words + HEADER_WORDS, h->middle - HEADER_WORDS, cells);
+    struck += rules4(v, h->lines, words + HEADER_WORDS, h->kinds_at - HEADER_WORDS, cells);
     struck += rules5(v, h->kinds, kinds, cells);
     int more = rounds(v, h->kinds, kinds, cells);
     return more < 0 ? -1 : struck + more;
@@ -393,7 +393,7 @@ int close_cells(const struct header *h, const uint16_t *words, uint8_t *cells)
 
 int close_again(const struct header *h, const uint16_t *words, uint8_t *cells)
 {
-    return rounds(h->boards, h->kinds, words + h->middle, cells);
+    return rounds(h->boards, h->kinds, words + h->kinds_at, cells);
 }
 
 int take(const uint16_t *words, size_t n, const uint8_t *table, size_t m, struct header *h, uint8_t *cells)

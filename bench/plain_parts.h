@@ -14,7 +14,7 @@ struct header {
     size_t boards;
     size_t lines;
     size_t kinds;
-    size_t middle;
+    size_t kinds_at;
 };
 
 /* Reads the description of n words, and copies the table of m cells. Answers 0 or the first refusal. */

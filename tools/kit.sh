@@ -13,6 +13,7 @@ toolchain=$own/toolchain
 [ -x "$toolchain/bin/clang" ] || die "the kit has nothing for this machine"
 emulator=$toolchain/bin/qemu-x86_64
 [ -x "$emulator" ] || emulator=''
+under='' # a command that watches the programs that are run, with its words
 
 compile_c() { # SOURCE OBJECT WORDS...: with C's headers as far as tools/headers/ declares them, since the kit has none
     source=$1 object=$2
@@ -31,5 +32,6 @@ link_program() { # PROGRAM OBJECTS...
 }
 
 run_program() { # PROGRAM WORDS...: one that was linked so, or target/bin/NAME; under the kit's loader and C library, as rt runs it
-    ${emulator:+"$emulator"} "$toolchain/lib/ld-linux-x86-64.so.2" --library-path "$toolchain/lib" "$@"
+    # shellcheck disable=SC2086
+    ${emulator:+"$emulator"} $under "$toolchain/lib/ld-linux-x86-64.so.2" --library-path "$toolchain/lib" "$@"
 }

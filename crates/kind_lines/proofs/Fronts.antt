@@ -8,11 +8,11 @@ use borrow.Author.Tests.{not-false}
 use lib.Dec.{T, T-not}
 use lib.ListN.{length, getD, take, drop}
 use Rattle.rules.specs.Descriptions.{KindLine, Reading, good, refused, Front, boardsOnly, kindLine}
+use Rattle.rules.proofs.Parts.{part}
 use Rattle.rules.proofs.Tests.{clash, T-true, T-false, true-T}
 use Rattle.rules.proofs.Lines.{OnPanel, kind-read, after-line, boardsOnly-in, boardsOnly-out}
 use Rattle.answers.specs.declared.refusals.Refusal.{Refusal}
 use Rattle.answers.specs.Answers.{refusal}
-use Rattle.lines.proofs.Fronts.{part}
 use Rattle.kind_lines.specs.declared.KindFound.the-variants as kind
 use Rattle.kind_lines.specs.Found.{kindFound}
 

@@ -7,6 +7,7 @@ use lib.ListN.{length, getD, take, drop, length-drop}
 use lib.Seq.{length-take-le}
 use Rattle.rules.specs.Expressions.{value}
 use Rattle.rules.specs.Descriptions.{RelationLine, Reading, good, refused, Front, meaning, relationLine}
+use Rattle.rules.proofs.Parts.{part}
 use Rattle.rules.proofs.Tests.{clash}
 use Rattle.rules.proofs.Lines.{OnBoards, relation-front, relation-read, after-line}
 use Rattle.expressions.specs.declared.Expression.{Expression}
@@ -18,10 +19,7 @@ use Rattle.lines.specs.declared.RelationLine as declared
 use Rattle.lines.specs.declared.RelationFound.the-variants as relation
 use Rattle.lines.specs.Found.{relationFound}
 
--- the part that code lends of a line: k words after the first three
-pub part : (k n : ℕ) → k ≡ n → 3 + k - 3 ≡ n
-part k n e = omega arith
-
+-- the part that code lends of a line has k words
 pub part-length : (k : ℕ) (ws : List ℕ) → 3 + k ≤ length ws → length (take (3 + k - 3) (drop 3 ws)) ≡ k
 part-length k ws h =
     let e : 3 + k - 3 ≡ k = omega arith in

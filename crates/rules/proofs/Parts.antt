@@ -1,7 +1,7 @@
--- The end of a run of words, by how many words it has. Assumes nothing.
+-- Parts of a run of words, as code lends them: the end of the run, and the words of a line after its first three. Assumes nothing.
 use mathlib.Core.Path.{_≡_, ap, _∙_}
 use mathlib.Core.List.{List}
-use Prim.Native.Nat.{ℕ, _-_, _≤_}
+use Prim.Native.Nat.{ℕ, _+_, _-_, _≤_}
 use native.Mathlib.Nat.{le-of-eq}
 use native.Mathlib.Omega.{arith}
 use lib.ListN.{length, take, drop, length-drop}
@@ -24,3 +24,7 @@ tail k ws = take-all (length ws - k) (drop k ws) (le-of-eq (length-drop k ws))
 
 pub tail-length : (k : ℕ) (ws : List ℕ) → length (take (length ws - k) (drop k ws)) ≡ length ws - k
 tail-length k ws = ap length (tail k ws) ∙ length-drop k ws
+
+-- the words of a line after its first three are as many as the line says
+pub part : (k n : ℕ) → k ≡ n → 3 + k - 3 ≡ n
+part k n e = omega arith

@@ -1,8 +1,9 @@
 #!/bin/sh
 # Measures the product's closing and search beside plain C versions of the same methods, and compares all that they answer.
-# It needs dist/, which 'make lib' fills; what it builds itself goes to target/bench/. On another kind of machine than x86-64 its times say nothing.
-# Where code lies in memory can change a time by a third. So the program is linked sixteen times, with the code of both versions moved on by 16 bytes each
-# time: the times shown are averages over the sixteen, and the ratio is their geometric mean.
+# It needs dist/, which 'make lib' fills; what it builds itself goes to target/bench/. On another kind of machine than x86-64 its times are the emulator's.
+# Where code lies in memory can change a time by a third; under the emulator a loop that lies across the end of a page takes twice as long. So the program is
+# linked sixteen times, with the code of both versions moved on by 240 bytes each time, which goes over a page of 4,096 bytes and over every multiple of 16 within
+# 256. The times shown are averages over the sixteen. The ratio is the geometric mean of twelve of theirs, without the two lowest and the two highest.
 # Exit status: 0 measured; 1 the answers or tables differ, or a sheet is not answered as its group says; 2 something could not be built.
 set -eu
 
@@ -12,7 +13,7 @@ cd "$(dirname "$0")/.."
 
 shift=0
 rm -f "$built"/times-*
-while [ "$shift" -lt 256 ]; do
+while [ "$shift" -lt 3840 ]; do
     program=$built/bench-$shift
     link_bench "$program" "$shift"
     run_program "$program" >"$built/times-$shift" || {
@@ -20,7 +21,7 @@ while [ "$shift" -lt 256 ]; do
         cat "$built/times-$shift" >&2
         exit "$status"
     }
-    shift=$((shift + 16))
+    shift=$((shift + 240))
 done
 
 awk '
@@ -33,13 +34,17 @@ awk '
         sheets[name] = $(NF - 3)
         product[name] += $(NF - 2)
         plain[name] += $(NF - 1)
-        ratio[name] += log($NF)
+        # the ratios of a group, from the lowest to the highest
+        for (k = ++ratios[name]; k > 1 && ratio[name, k - 1] > $NF; k--) ratio[name, k] = ratio[name, k - 1]
+        ratio[name, k] = $NF
     }
     END {
         printf "%-14s %6s %12s %12s %8s\n", "group", "sheets", "product ns", "plain C ns", "ratio"
         for (i = 1; i <= groups; i++) {
             name = order[i]
-            r = exp(ratio[name] / programs)
+            sum = 0
+            for (k = 3; k <= programs - 2; k++) sum += log(ratio[name, k])
+            r = exp(sum / (programs - 4))
             if (r > largest) { largest = r; slowest = name }
             printf "%-14s %6d %12.1f %12.1f %8.2f\n", name, sheets[name], product[name] / programs, plain[name] / programs, r
         }

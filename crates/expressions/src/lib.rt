@@ -69,7 +69,7 @@ fn apply_one(word: usize, x: u8) -> u8
     if word == COMPLEMENT {
         relations::complement(x)
     } else {
-        relations::converse(x)
+        relations::converse(&relations::converse_table(), x)
     }
 }
 

@@ -2,6 +2,7 @@
 ghost use mathlib.Core.Path.{_≡_};
 ghost use Prim.Native.Nat.{_^_, _<_};
 ghost use Rattle.rules.specs.Relations.{relations, setLimit, meet, join, complement, converse, size};
+ghost use Rattle.relations.specs.Turning.{Converses};
 use answers::widths::byte_number;
 
 // The four relations, each as a set of one: same board, above, below, side.
@@ -75,12 +76,19 @@ pub fn complement(x: u8) -> u8
     FULL - x
 }
 
-// The set as seen from the other board.
-pub fn converse(x: u8) -> u8
-    requires { ⌜ x < setLimit ⌝ }
+// Gives the converses of all sets. They are lent to `converse`, so that a loop lays them out once.
+pub fn converse_table() -> [u8; SETS]
+    ensures { λ t. ⌜ Converses t ⌝ }
+{
+    CONVERSES
+}
+
+// The set as seen from the other board, by the table of converses.
+pub fn converse(table: &[u8; SETS], x: u8) -> u8
+    requires { ⌜ Converses (now table) × (x < setLimit) ⌝ }
     ensures { λ z. ⌜ z ≡ converse x ⌝ }
 {
-    CONVERSES[byte_number(x)]
+    table[byte_number(x)]
 }
 
 // The set of one relation, given by its number.

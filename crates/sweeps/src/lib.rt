@@ -14,10 +14,11 @@ pub fn rules2(v: usize, cells: &mut [u8]) -> u32
     requires { ⌜ Ready v (now cells) ⌝ }
     ensures { λ n. ⌜ Pass (Quiet v) v (rules2 v) (now (cells .entry)) 0 (now (cells .exit)) n ⌝ }
 {
+    let entries = relations::converse_table();
     let mut struck = 0;
     for p in 0..v {
         for q in 0..v {
-            let bound = relations::converse(cells[v * p + q]);
+            let bound = relations::converse(&entries, cells[v * p + q]);
             let k = v * q + p;
             struck += tables::narrow(cells, k, bound);
         }

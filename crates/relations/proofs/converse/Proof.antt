@@ -1,21 +1,19 @@
--- `converse` meets its contract: the entry of each set is its converse, computed once for the whole table. Assumes nothing.
+-- `converse` meets its contract: it reads the entry of the set. Assumes nothing.
 use borrow.Author.Needs.{needs}
 use native.Mathlib.Omega.{arith}
-use Rattle.rules.specs.Relations.{relations, setLimit, has, setTo, setOf, opposite, converse}
-use Rattle.rules.proofs.Entries.{value-at}
+use Rattle.rules.specs.Relations.{relations}
 use Rattle.relations.proofs.converse.Statement.{statement}
 use Rattle.relations.proofs.converse.Tie as tie
 
 byte-number-requires : tie.Need-byte-number-requires
 byte-number-requires c κs = search needs
 
-array-read-result : tie.Need-array-read-result
+element-copy-out-result : tie.Need-element-copy-out-result
 unfolding relations
-array-read-result c = omega arith
+element-copy-out-result c = let l = c .before .pre .0 .cells in omega arith
 
 returns : tie.Need-returns
-unfolding relations has setTo setOf opposite converse
-returns c = rw (c .byte-number .ensures) (value-at converse setLimit (c .before .args .x) (c .before .pre))
+returns c = let start = c .before .before in rw (c .before .byte-number .ensures) (start .pre .0 .entry (start .args .x) (start .pre .1))
 
 pub converse-spec : {M : Type 1} → statement M
-converse-spec = tie.close (tie.spec byte-number-requires array-read-result returns)
+converse-spec = tie.close (tie.spec byte-number-requires element-copy-out-result returns)

@@ -16,20 +16,23 @@ use Rattle.sweeps.proofs.rules2.Statement.{statement}
 use Rattle.sweeps.proofs.rules2.Tie as tie
 
 abbrev Inv-loop2 : tie.InvT-loop2
-Inv-loop2 v cells₀ struck₀ p q₀ cells struck q = (q ≤ v) × Pass (Quiet v) v (flatMap (across v p) (upTo q)) cells₀ struck₀ cells struck
+Inv-loop2 v cells₀ entries struck₀ p q₀ cells struck q = (q ≤ v) × Pass (Quiet v) v (flatMap (across v p) (upTo q)) cells₀ struck₀ cells struck
 
 abbrev μ-loop2 : tie.MeasureT-loop2
-μ-loop2 v cells₀ struck₀ p q₀ cells struck q = v - q
+μ-loop2 v cells₀ entries struck₀ p q₀ cells struck q = v - q
 
 abbrev Inv-loop : tie.InvT-loop
-Inv-loop v cells₀ struck₀ p₀ cells struck p =
+Inv-loop v cells₀ entries struck₀ p₀ cells struck p =
     (p ≤ v) × Pass (Quiet v) v (flatMap (λ p. boardsOf v (across v p)) (upTo p)) cells₀ struck₀ cells struck
 
 abbrev μ-loop : tie.MeasureT-loop
-μ-loop v cells₀ struck₀ p₀ cells struck p = v - p
+μ-loop v cells₀ entries struck₀ p₀ cells struck p = v - p
+
+converse-table-requires : tie.Need-converse-table-requires Inv-loop2 μ-loop2 Inv-loop μ-loop
+converse-table-requires c κs = search needs
 
 loop-holds : tie.Need-loop-holds Inv-loop2 μ-loop2 Inv-loop μ-loop
-loop-holds c = (omega arith, pass-start _ _ (c .before .pre .table))
+loop-holds c = (omega arith, pass-start _ _ (c .before .before .pre .table))
 
 loop2-holds : tie.Need-loop2-holds Inv-loop2 μ-loop2 Inv-loop μ-loop
 loop2-holds c = (omega arith, pass-start _ _ (c .before .loop .inv .1 .kept .table))
@@ -40,7 +43,7 @@ Inner = tie.In-loop2 Inv-loop2 μ-loop2 Inv-loop μ-loop
 
 module _ (c : Inner) where
   abbrev start : tie.Start Inv-loop2 μ-loop2 Inv-loop μ-loop
-  start = c .before .before .before .before .before
+  start = c .before .before .before .before .before .before
 
   abbrev boards : ℕ
   boards = start .args .v
@@ -72,26 +75,28 @@ module _ (c : Inner) where
   few-qp = place-few (start .pre .boards) q-board p-board
 
 mul-converse : tie.Need-mul-converse Inv-loop2 μ-loop2 Inv-loop μ-loop
-mul-converse c = record { fits = omega (arith, few-pq c) }
+mul-converse c = record { fits = omega (arith, few-pq (c .before)) }
 
 add-converse : tie.Need-add-converse Inv-loop2 μ-loop2 Inv-loop μ-loop
-add-converse c = record { fits = omega (arith, few-pq c) }
+add-converse c = record { fits = omega (arith, few-pq (c .before)) }
 
 slice-read-converse : tie.Need-slice-read-converse Inv-loop2 μ-loop2 Inv-loop μ-loop
-slice-read-converse c = let at = c .before in ready-place (ready at) (p-board at) (q-board at)
+slice-read-converse c = let at = c .before .before in ready-place (ready at) (p-board at) (q-board at)
 
 converse-requires : tie.Need-converse-requires Inv-loop2 μ-loop2 Inv-loop μ-loop
-converse-requires c κs = let at = c .before in ready at .table .small (boards at * p at + q at)
+converse-requires c κs =
+    let at = c .before .before in
+    (c .before .before .before .before .before .before .converse-table .ensures, ready at .table .small (boards at * p at + q at))
 
 mul-k : tie.Need-mul-k Inv-loop2 μ-loop2 Inv-loop μ-loop
-mul-k c = record { fits = omega (arith, few-pq (c .before .before), few-qp (c .before .before)) }
+mul-k c = record { fits = omega (arith, few-pq (c .before .before .before), few-qp (c .before .before .before)) }
 
 add-k : tie.Need-add-k Inv-loop2 μ-loop2 Inv-loop μ-loop
-add-k c = record { fits = omega (arith, few-pq (c .before .before), few-qp (c .before .before)) }
+add-k c = record { fits = omega (arith, few-pq (c .before .before .before), few-qp (c .before .before .before)) }
 
 narrow-requires : tie.Need-narrow-requires Inv-loop2 μ-loop2 Inv-loop μ-loop
 narrow-requires c κs =
-    let at = c .before .before .before in
+    let at = c .before .before .before .before in
     let small = ready at .table .small in (
       omega (arith, ready-place (ready at) (p-board at) (q-board at), ready-place (ready at) (q-board at) (p-board at)),
       search (needs, small),
@@ -100,30 +105,30 @@ narrow-requires c κs =
 
 add-struck : tie.Need-add-struck Inv-loop2 μ-loop2 Inv-loop μ-loop
 add-struck c =
-    let at = c .before .before .before .before .before .before in
+    let at = c .before .before .before .before .before .before .before in
     let k = across-turn (ready-before at) (p-board at) (q-board at) (at .before .loop2 .inv .1) (c .before .before .before .before .converse .ensures) (c .before .before .narrow .ensures) in
     let l : at .before .loop2 .struck + c .before .before .narrow .result ≤ 0 + mostMembers = kept-few (start at .pre) (kept-then _ (at .before .before .before .loop .inv .1 .kept) (k .kept)) in
     record { fits = omega arith }
 
 add-q : tie.Need-add-q Inv-loop2 μ-loop2 Inv-loop μ-loop
 add-q c =
-    let at = c .before .before .before .before .before .before in
+    let at = c .before .before .before .before .before .before .before in
     let l = q-board at in
     let m : boards at ≤ 16 = start at .pre .boards in
     record { fits = omega arith }
 
 loop2-less : tie.Need-loop2-less Inv-loop2 μ-loop2 Inv-loop μ-loop
-loop2-less c = omega (arith, q-board (c .before .before .before .before .before .before))
+loop2-less c = omega (arith, q-board (c .before .before .before .before .before .before .before))
 
 loop2-again : tie.Need-loop2-again Inv-loop2 μ-loop2 Inv-loop μ-loop
 loop2-again c =
-    let at = c .before .before .before .before .before .before in
+    let at = c .before .before .before .before .before .before .before in
     let l = q-board at in
     (omega arith, across-turn (ready-before at) (p-board at) l (at .before .loop2 .inv .1) (c .before .before .before .before .converse .ensures) (c .before .before .narrow .ensures))
 
 add-p : tie.Need-add-p Inv-loop2 μ-loop2 Inv-loop μ-loop
 add-p c =
-    let start = c .before .before .before .before .before in
+    let start = c .before .before .before .before .before .before in
     let l : c .before .before .before .loop .p < start .args .v = c .before .before .loop-test .taken in
     let m : start .args .v ≤ 16 = start .pre .boards in
     record { fits = omega arith }
@@ -133,7 +138,7 @@ loop-less c = omega (arith, c .before .before .loop-test .taken)
 
 loop-again : tie.Need-loop-again Inv-loop2 μ-loop2 Inv-loop μ-loop
 loop-again c =
-    let start = c .before .before .before .before .before in
+    let start = c .before .before .before .before .before .before in
     let loop = c .before .before .before .loop in
     let l : loop .p < start .args .v = c .before .before .loop-test .taken in (
       omega arith,
@@ -147,7 +152,7 @@ same-length c = c .before .loop .inv .1 .kept .inside .cells
 returns : tie.Need-returns Inv-loop2 μ-loop2 Inv-loop μ-loop
 unfolding rules2
 returns c =
-    let start = c .before .before .before in
+    let start = c .before .before .before .before in
     pass-whole _ (λ p. boardsOf (start .args .v) (across (start .args .v) p)) (start .args .v) (c .before .loop .inv .0) (c .loop-test .left)
     (c .before .loop .inv .1)
 
@@ -159,6 +164,7 @@ rules2-spec =
     μ-loop2
     Inv-loop
     μ-loop
+    converse-table-requires
     loop-holds
     loop2-holds
     mul-converse

@@ -1,6 +1,6 @@
 #!/bin/sh
 # Measures the product's closing and search beside plain C versions of the same methods, and compares all that they answer.
-# It needs dist/, which 'make lib' fills; what it builds itself goes to target/bench/. On another kind of machine than x86-64 its times are the emulator's.
+# It needs dist/, which 'make lib' fills; what it builds itself goes to target/bench/. On another kind of machine than x86-64 its times say nothing.
 # Where code lies in memory can change a time by a third; under the emulator a loop that lies across the end of a page takes twice as long. So the program is
 # linked sixteen times, with the code of both versions moved on by 240 bytes each time, which goes over a page of 4,096 bytes and over every multiple of 16 within
 # 256. The times shown are averages over the sixteen. The ratio is the geometric mean of twelve of theirs, without the two lowest and the two highest.

@@ -14,10 +14,11 @@ use Rattle.rules.specs.Search.{End, found, none, tries, ended, ranOut, plainOrd
 use Rattle.rules.specs.Calls.{Outcome, refuse, succeed, wellFormed, admitted, given, answer, searching}
 use Rattle.rules.proofs.Descriptions.{read-numbered}
 use Rattle.words.specs.Words.{words}
-use Rattle.listing.specs.Listings.{mostBytes, budget, decimal, signText, lineFeed, boardsText, triesText, refusedText, inputLine, refusalLine, heading, pairLine, pairsOf, pairs, told, solved, listing}
+use Rattle.puts.specs.Decimals.{decimal}
+use Rattle.puts.proofs.Decimals.{decimal-two, decimal-five}
+use Rattle.listing.specs.Listings.{mostBytes, budget, signText, lineFeed, boardsText, triesText, refusedText, inputLine, refusalLine, heading, pairLine, pairsOf, pairs, told, solved, listing}
 use Rattle.listing.specs.declared.Page.{Page}
 use Rattle.listing.specs.Pages.{pageBytes, page}
-use Rattle.listing.proofs.Decimals.{decimal-two, decimal-five}
 use Rattle.listing.proofs.Solving.{told-found, told-refused, read-in-range}
 
 -- the bytes of the longest page

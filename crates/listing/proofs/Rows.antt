@@ -4,8 +4,8 @@ use mathlib.Core.List.{List, _++_, flatMap, append-nil, append-assoc}
 use Prim.Native.Nat.{ℕ, zero, suc, _+_, _-_, _≤_, _<_}
 use native.Mathlib.Omega.{arith}
 use Rattle.rules.specs.Tables.{range}
-use Rattle.listing.specs.Pages.{HasRoom, Put}
-use Rattle.listing.proofs.Putting.{put-none, put-then, fits-first, fits-rest}
+use Rattle.puts.specs.Texts.{HasRoom, Put}
+use Rattle.puts.proofs.Putting.{put-none, put-then, fits-first, fits-rest}
 
 module _ (f : ℕ → List ℕ) where
   -- the lines of m numbers from i on, and of the n after them

@@ -10,7 +10,8 @@ use Rattle.rules.specs.Closing.{reaches, agree, bound6, bound6′, bound7, boun
 use Rattle.rules.specs.Search.{attempt, choose, places, search, cap}
 use Rattle.rules.specs.Calls.{wellFormed, admitted, searching}
 use Rattle.words.specs.Words.{words}
-use Rattle.listing.specs.Listings.{boardsText, triesText, refusedText, inputLine, digits, decimal, sign, refusalLine, heading, pairLine, told, solved, listing}
+use Rattle.puts.specs.Decimals.{digits, decimal}
+use Rattle.listing.specs.Listings.{boardsText, triesText, refusedText, inputLine, sign, refusalLine, heading, pairLine, told, solved, listing}
 
 -- words below 256, low byte first
 abbrev bytes : List ℕ → List ℕ

@@ -2,8 +2,8 @@
 -- Assumes nothing.
 use mathlib.Core.Bool.{true, false, _&&_}
 use mathlib.Core.List.{List, [], _∷_, _++_, flatMap}
-use Prim.Native.Nat.{ℕ, zero, suc, _+_, _-_, _*_, _/_, _%_}
-use lib.Dec.{leb, ltb, eqb}
+use Prim.Native.Nat.{ℕ, suc, _-_, _*_, _%_}
+use lib.Dec.{leb, eqb}
 use lib.ListN.{length, getD}
 use Rattle.rules.specs.Relations.{E, A, B}
 use Rattle.rules.specs.Descriptions.{mostWords}
@@ -11,6 +11,7 @@ use Rattle.rules.specs.Tables.{cell, range, upTo, filled}
 use Rattle.rules.specs.Search.{plainOrder}
 use Rattle.rules.specs.Calls.{Outcome, searching}
 use Rattle.words.specs.Words.{words}
+use Rattle.puts.specs.Decimals.{decimal}
 
 -- the bytes of the longest description, two for each word
 abbrev pub mostBytes : ℕ
@@ -40,19 +41,6 @@ inputLine = 105 ∷ 110 ∷ 112 ∷ 117 ∷ 116 ∷ 10 ∷ []
 
 abbrev pub lineFeed : List ℕ
 lineFeed = 10 ∷ []
-
--- the last decimal digit of a number
-abbrev pub lastDigit : ℕ → ℕ
-lastDigit n = 48 + n % 10
-
--- the last decimal digits of n, at most k of them, without leading zeros
-unfoldable pub digits : ℕ → ℕ → List ℕ
-digits zero n = []
-digits (suc k) n = elim (ltb n 10) [ true ↦ lastDigit n ∷ [] | false ↦ digits k (n / 10) ++ (lastDigit n ∷ []) ]
-
--- a number in decimal: it has no more digits than it counts
-unfoldable pub decimal : ℕ → List ℕ
-decimal n = digits (suc n) n
 
 -- the sign of a single relation: = E, < A, > B, | S
 unfoldable pub sign : ℕ → ℕ

@@ -1,9 +1,7 @@
--- A page: the bytes that are printed, and zeros up to its size; and what is put on it from a place on. Assumes nothing.
-use mathlib.Core.Path.{_≡_}
+-- A page: the bytes that are printed, and zeros up to its size. Assumes nothing.
 use mathlib.Core.List.{List, _++_}
-use Prim.Native.Nat.{ℕ, _+_, _-_, _≤_}
+use Prim.Native.Nat.{ℕ, _-_}
 use lib.ListN.{length, replicate}
-use lib.Seq.{sets}
 use Rattle.listing.specs.declared.Page.{Page}
 
 abbrev pub pageBytes : ℕ
@@ -12,12 +10,3 @@ pageBytes = 1024
 -- the page that has these bytes
 abbrev pub page : List ℕ → Page
 page xs = record { text = xs ++ replicate (pageBytes - length xs) 0; used = length xs }
-
--- there is room in the text t for these bytes, from a place on
-pub record HasRoom (t : List ℕ) (at : ℕ) (xs : List ℕ) : Type 0 where
-  pub room : at + length xs ≤ length t
-
--- the text t with these bytes from a place on is u, and the next place is n
-pub record Put (t : List ℕ) (at : ℕ) (xs u : List ℕ) (n : ℕ) : Type 0 where
-  pub text : u ≡ sets t at xs
-  pub next : n ≡ at + length xs

@@ -1,5 +1,4 @@
 // What the program prints for the bytes that it read: everything that it decides is decided here.
-mod puts;
 mod texts;
 
 ghost use mathlib.Core.Path.{_≡_};
@@ -9,9 +8,9 @@ ghost use Rattle.rules.specs.Descriptions.{mostBoards};
 ghost use Rattle.rules.specs.Search.{plainOrder};
 ghost use Rattle.rules.specs.Calls.{searching};
 ghost use Rattle.rules.specs.Tables.{filled};
+ghost use Rattle.puts.specs.Texts.{HasRoom, Put};
 ghost use Rattle.listing.specs.Listings.{budget, told, solved, listing, inputLine};
-ghost use Rattle.listing.specs.Pages.{pageBytes, page, HasRoom, Put};
-use crate::puts::put_text;
+ghost use Rattle.listing.specs.Pages.{pageBytes, page};
 use crate::texts::put_heading;
 use crate::texts::put_pairs;
 use crate::texts::put_refusal;
@@ -19,6 +18,7 @@ use answers::limits::MOST_WORDS;
 use answers::rooms::table_room;
 use answers::rooms::words_room;
 use answers::widths::word_number;
+use puts::put_text;
 
 // The bytes of a page, used or not.
 pub const PAGE_BYTES: usize = 1024;

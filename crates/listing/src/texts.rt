@@ -4,13 +4,14 @@ ghost use mathlib.Core.List.{_++_};
 ghost use Prim.Native.Nat.{_*_, _≤_, _<_};
 ghost use lib.ListN.{length};
 ghost use Rattle.rules.specs.Descriptions.{mostBoards};
-ghost use Rattle.listing.specs.Listings.{decimal, lineFeed, sign, signText, refusalLine, heading, pairsOf, pairs};
-ghost use Rattle.listing.specs.Pages.{HasRoom, Put};
-use crate::puts::put_byte;
-use crate::puts::put_number;
-use crate::puts::put_text;
+ghost use Rattle.puts.specs.Decimals.{decimal};
+ghost use Rattle.puts.specs.Texts.{HasRoom, Put};
+ghost use Rattle.listing.specs.Listings.{lineFeed, sign, signText, refusalLine, heading, pairsOf, pairs};
 use answers::widths::byte_number;
 use answers::widths::count_number;
+use puts::put_byte;
+use puts::put_number;
+use puts::put_text;
 
 // The sign of a single relation.
 fn sign(set: u8) -> u8

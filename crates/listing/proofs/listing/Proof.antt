@@ -1,5 +1,5 @@
 -- `listing` meets its contract: what is printed is put at the start of a blank page. Assumes nothing.
-use Rattle.listing.proofs.Putting.{page-fits, page-whole}
+use Rattle.listing.proofs.Pages.{page-fits, page-whole}
 use Rattle.listing.proofs.Lengths.{page-short}
 use borrow.Author.Needs.{needs}
 use Rattle.listing.proofs.listing.Statement.{statement}

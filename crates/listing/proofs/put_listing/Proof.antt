@@ -9,8 +9,8 @@ use lib.Seq.{length-take-le, take-at}
 use Rattle.rules.specs.Descriptions.{mostWords}
 use Rattle.rules.proofs.Tests.{tested}
 use Rattle.words.specs.Words.{words}
+use Rattle.puts.specs.Texts.{HasRoom, Put}
 use Rattle.listing.specs.Listings.{mostBytes, solved, listing}
-use Rattle.listing.specs.Pages.{HasRoom, Put}
 use Rattle.words.proofs.Bytes.{words-length}
 use Rattle.listing.proofs.Solving.{listing-input, listing-taken}
 use borrow.Author.Needs.{needs}

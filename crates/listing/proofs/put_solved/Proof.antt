@@ -5,9 +5,9 @@ use Prim.Native.Nat.{ℕ}
 use Rattle.rules.specs.Search.{plainOrder}
 use Rattle.rules.specs.Calls.{searching}
 use Rattle.rules.specs.Tables.{filled}
+use Rattle.puts.specs.Texts.{HasRoom, Put}
+use Rattle.puts.proofs.Putting.{put-then, fits-first, fits-rest}
 use Rattle.listing.specs.Listings.{budget, refusalLine, heading, pairs, told}
-use Rattle.listing.specs.Pages.{HasRoom, Put}
-use Rattle.listing.proofs.Putting.{put-then, fits-first, fits-rest}
 use Rattle.listing.proofs.Solving.{search-told-refused, search-told-found}
 use borrow.Author.Needs.{needs}
 use Rattle.listing.proofs.put_solved.Statement.{statement}

@@ -8,8 +8,8 @@ use lib.ListN.{length, take, length-replicate}
 use lib.Seq.{length-take-le}
 use Rattle.rules.specs.Descriptions.{mostBoards, mostCells}
 use Rattle.rules.proofs.Headers.{InRange}
+use Rattle.puts.specs.Texts.{HasRoom, Put}
 use Rattle.listing.specs.Listings.{refusalLine, solved}
-use Rattle.listing.specs.Pages.{HasRoom, Put}
 use Rattle.listing.proofs.Solving.{good-in-range, solved-refused, solved-searched}
 use borrow.Author.Needs.{needs}
 use Rattle.listing.proofs.put_words.Statement.{statement}

@@ -1,6 +1,6 @@
 -- `unread` meets its contract: the line is put at the start of a blank page. Assumes nothing.
 use native.Mathlib.Omega.{arith}
-use Rattle.listing.proofs.Putting.{page-whole}
+use Rattle.listing.proofs.Pages.{page-whole}
 use borrow.Author.Needs.{needs}
 use Rattle.listing.proofs.unread.Statement.{statement}
 use Rattle.listing.proofs.unread.Tie as tie

@@ -1,6 +1,7 @@
 -- `put_last` meets its contract: a number, and then a line feed. Assumes nothing.
-use Rattle.listing.specs.Listings.{lineFeed, decimal}
-use Rattle.listing.proofs.Putting.{put-then, fits-first, fits-rest}
+use Rattle.puts.specs.Decimals.{decimal}
+use Rattle.puts.proofs.Putting.{put-then, fits-first, fits-rest}
+use Rattle.listing.specs.Listings.{lineFeed}
 use borrow.Author.Needs.{needs}
 use Rattle.listing.proofs.texts.put_last.Statement.{statement}
 use Rattle.listing.proofs.texts.put_last.Tie as tie

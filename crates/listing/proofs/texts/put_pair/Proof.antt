@@ -2,9 +2,10 @@
 use mathlib.Core.Path.{_≡_, sym, subst}
 use mathlib.Core.List.{List, _++_}
 use Prim.Native.Nat.{ℕ}
-use Rattle.listing.specs.Listings.{lineFeed, decimal, signText}
-use Rattle.listing.specs.Pages.{HasRoom, Put}
-use Rattle.listing.proofs.Putting.{put-then, fits-first, fits-rest}
+use Rattle.puts.specs.Decimals.{decimal}
+use Rattle.puts.specs.Texts.{HasRoom, Put}
+use Rattle.puts.proofs.Putting.{put-then, fits-first, fits-rest}
+use Rattle.listing.specs.Listings.{lineFeed, signText}
 use borrow.Author.Needs.{needs}
 use Rattle.listing.proofs.texts.put_pair.Statement.{statement}
 use Rattle.listing.proofs.texts.put_pair.Tie as tie

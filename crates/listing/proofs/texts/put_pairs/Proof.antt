@@ -3,9 +3,9 @@ use mathlib.Core.List.{flatMap}
 use Prim.Native.Nat.{_-_, _≤_}
 use native.Mathlib.Omega.{arith}
 use Rattle.rules.specs.Tables.{range}
+use Rattle.puts.specs.Texts.{Put}
+use Rattle.puts.proofs.Putting.{put-length}
 use Rattle.listing.specs.Listings.{pairsOf}
-use Rattle.listing.specs.Pages.{Put}
-use Rattle.listing.proofs.Putting.{put-length}
 use Rattle.listing.proofs.Rows.{lines-none, lines-fit, lines-more, lines-all}
 use Rattle.listing.proofs.texts.put_pairs.Statement.{statement}
 use Rattle.listing.proofs.texts.put_pairs.Tie as tie

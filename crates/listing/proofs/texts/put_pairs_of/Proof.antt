@@ -5,9 +5,9 @@ use native.Mathlib.Nat.{mul-le-mul}
 use native.Mathlib.Omega.{arith}
 use Rattle.rules.specs.Tables.{range}
 use Rattle.rules.proofs.Inside.{in-range}
+use Rattle.puts.specs.Texts.{Put}
+use Rattle.puts.proofs.Putting.{put-length}
 use Rattle.listing.specs.Listings.{pairLine}
-use Rattle.listing.specs.Pages.{Put}
-use Rattle.listing.proofs.Putting.{put-length}
 use Rattle.listing.proofs.Rows.{lines-none, lines-fit, lines-more, lines-all}
 use Rattle.listing.proofs.texts.put_pairs_of.Statement.{statement}
 use Rattle.listing.proofs.texts.put_pairs_of.Tie as tie

@@ -7,7 +7,7 @@ use native.Mathlib.Omega.{arith}
 use borrow.Author.Tests.{lt-ltb, le-ltb, ltb-true, ltb-false}
 use lib.Dec.{ltb}
 use lib.ListN.{length, length-append}
-use Rattle.listing.specs.Listings.{lastDigit, digits, decimal}
+use Rattle.puts.specs.Decimals.{lastDigit, digits, decimal}
 
 -- the digits by whether there is only one
 by-test : ℕ → ℕ → Bool → List ℕ

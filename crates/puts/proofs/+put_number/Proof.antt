@@ -3,19 +3,19 @@ use mathlib.Core.Path.{_≡_, sym, ap, _∙_, subst}
 use mathlib.Core.List.{List, [], _∷_, _++_}
 use Prim.Native.Nat.{ℕ, _/_, _<_}
 use native.Mathlib.Omega.{arith}
-use Rattle.listing.specs.Listings.{lastDigit, decimal}
-use Rattle.listing.specs.Pages.{HasRoom, Put}
-use Rattle.listing.proofs.Decimals.{decimal-one, decimal-more}
-use Rattle.listing.proofs.Putting.{put-length, put-then, fits-first, fits-rest}
+use Rattle.puts.specs.Decimals.{lastDigit, decimal}
+use Rattle.puts.specs.Texts.{HasRoom, Put}
+use Rattle.puts.proofs.Decimals.{decimal-one, decimal-more}
+use Rattle.puts.proofs.Putting.{put-length, put-then, fits-first, fits-rest}
 use borrow.Fn.Kinds.{In}
 use borrow.Fn.PlainCycle.{Measures, is, falls, and}
-use Rattle.listing.proofs.puts.put_number.Reads as put-number
-use Rattle.listing.proofs.puts.put_number.Kinds as put-number-kinds
-use Rattle.listing.proofs.puts.+put_number.Lts-put_number as put-number-lts
-use Rattle.listing.proofs.puts.last_digit.Reads as last-digit-reads
-use Rattle.listing.proofs.puts.put_byte.Reads as put-byte-reads
-use Rattle.listing.proofs.puts.+put_number.{statement}
-use Rattle.listing.proofs.puts.+put_number.Tie.{close}
+use Rattle.puts.proofs.put_number.Reads as put-number
+use Rattle.puts.proofs.put_number.Kinds as put-number-kinds
+use Rattle.puts.proofs.+put_number.Lts-put_number as put-number-lts
+use Rattle.puts.proofs.last_digit.Reads as last-digit-reads
+use Rattle.puts.proofs.put_byte.Reads as put-byte-reads
+use Rattle.puts.proofs.+put_number.{statement}
+use Rattle.puts.proofs.+put_number.Tie.{close}
 
 abbrev μ-put-number : Measures 1 put-number-kinds.ps ℕ
 μ-put-number κs a = a .1 .1 .0

@@ -1,11 +1,11 @@
 // Bytes and numbers, put into a text from a place on. Each function answers the next place.
 ghost use mathlib.Core.Path.{_≡_};
 ghost use mathlib.Core.List.{[], _∷_};
-ghost use Rattle.listing.specs.Listings.{lastDigit, decimal};
-ghost use Rattle.listing.specs.Pages.{HasRoom, Put};
+ghost use Rattle.puts.specs.Decimals.{lastDigit, decimal};
+ghost use Rattle.puts.specs.Texts.{HasRoom, Put};
 
 // Puts a byte.
-pub(crate) fn put_byte(text: &mut [u8], at: usize, byte: u8) -> usize
+pub fn put_byte(text: &mut [u8], at: usize, byte: u8) -> usize
     requires { ⌜ HasRoom (now text) at (byte ∷ []) ⌝ }
     ensures { λ n. ⌜ Put (now (text .entry)) at (byte ∷ []) (now (text .exit)) n ⌝ }
 {
@@ -14,7 +14,7 @@ pub(crate) fn put_byte(text: &mut [u8], at: usize, byte: u8) -> usize
 }
 
 // Puts some bytes.
-pub(crate) fn put_text(text: &mut [u8], at: usize, bytes: &[u8]) -> usize
+pub fn put_text(text: &mut [u8], at: usize, bytes: &[u8]) -> usize
     requires { ⌜ HasRoom (now text) at (now bytes) ⌝ }
     ensures { λ n. ⌜ Put (now (text .entry)) at (now (bytes .entry)) (now (text .exit)) n ⌝ }
 {
@@ -32,7 +32,7 @@ fn last_digit(n: usize) -> u8
 }
 
 // Puts a number in decimal.
-pub(crate) fn put_number(text: &mut [u8], at: usize, n: usize) -> usize
+pub fn put_number(text: &mut [u8], at: usize, n: usize) -> usize
     requires { ⌜ HasRoom (now text) at (decimal n) ⌝ }
     ensures { λ r. ⌜ Put (now (text .entry)) at (decimal n) (now (text .exit)) r ⌝ }
 {

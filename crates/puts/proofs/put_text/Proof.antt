@@ -5,9 +5,9 @@ use native.Mathlib.Omega.{arith}
 use mathlib.Core.List.{List}
 use lib.ListN.{length, getD, take, set}
 use lib.Seq.{sets, length-sets, take-all}
-use Rattle.listing.proofs.Putting.{bytes-more}
-use Rattle.listing.proofs.puts.put_text.Statement.{statement}
-use Rattle.listing.proofs.puts.put_text.Tie as tie
+use Rattle.puts.proofs.Putting.{bytes-more}
+use Rattle.puts.proofs.put_text.Statement.{statement}
+use Rattle.puts.proofs.put_text.Tie as tie
 
 abbrev Inv-loop : tie.InvT-loop
 Inv-loop text₀ at bytes i₀ i-end text i = (i ≤ length bytes) × (text ≡ sets text₀ at (take i bytes))

@@ -1,0 +1,3 @@
+-- Why the writer's parentheses are just those that are needed.
+pub mod Typing
+pub mod Needed

@@ -1,0 +1,1 @@
+// Why what is scanned of a line is what its symbols write. It holds no code.

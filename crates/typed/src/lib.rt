@@ -1,0 +1,1 @@
+// Typed sheets: the definitions and their laws. It holds no code.

@@ -1,11 +1,13 @@
 /* Talungbisay: finds radial trees of boards that fit a description, and checks those that somebody proposes.
  *
- * A call is lent a description, a table or both. It takes whatever they hold: what is malformed is refused by a number. It keeps nothing, allocates nothing
- * and always returns. A refusal leaves the lent table as it came. Calls on different tables may run at the same time.
+ * A call is lent a description, a table or both, or a typed sheet, with room for what it makes. It takes whatever they hold: what is malformed is refused by a
+ * number. It keeps nothing, allocates nothing and always returns. A refusal leaves the lent table or room as it came. Calls on different tables or rooms may run
+ * at the same time.
  *
  * All that the caller answers for:
- *  - 'words' points to n words and 'table' to as many cells as said. Neither is ever NULL, not even where the length is 0.
- *  - The words and the table do not overlap, and nothing else writes them during the call, nor reads a table that the call writes.
+ *  - 'words' points to n words, 'table' to as many cells and 'text' to as many bytes as said; where a call writes words or text, to as many as its room. None
+ *    is ever NULL, not even where the length is 0.
+ *  - What is lent to a call does not overlap, and nothing else writes it during the call, nor reads what the call writes.
  *
  * To link: this header and libtalung.a, for x86-64 Linux. C99 or later, or C++. Of the C library it uses memcpy and memset alone. */
 #ifndef TALUNGBISAY_H
@@ -22,7 +24,8 @@ extern "C" {
 enum {
     TALUNG_MOST_BOARDS = 16,
     TALUNG_MOST_CELLS = 256,
-    TALUNG_MOST_WORDS = 2486
+    TALUNG_MOST_WORDS = 2486,
+    TALUNG_MOST_TEXT = 16762 /* bytes of the text that talung_to_text writes; a text that is read may be longer */
 };
 
 /* What board p may be to board q, as bits of a cell. A cell is a set of them: 0 has none of them, 15 all four. */
@@ -71,7 +74,9 @@ enum {
     TALUNG_CONTRADICTORY = 7,  /* closing: the description and the table contradict each other */
     TALUNG_NOWHERE = 8,        /* search: no tree fits; the count is of the tries made */
     TALUNG_RAN_OUT = 9,        /* search: more tries are needed than the budget; the count is the budget */
-    TALUNG_NO_ARRANGEMENT = 10 /* check: the table is no tree that fits */
+    TALUNG_NO_ARRANGEMENT = 10, /* check: the table is no tree that fits */
+    TALUNG_NO_ROOM = 19,       /* text: the lent room is too small */
+    TALUNG_NO_SHEET = 20       /* text: a line is malformed; the count is its number, from 1, or 4294967295 where that is smaller */
 };
 
 /* Takes an answer apart: its number, TALUNG_OK or a refusal, is the low 32 bits, its count the high 32. The count is 0 where nothing else is said. */
@@ -106,6 +111,26 @@ uint64_t talung_search(const uint16_t *words, size_t n, uint8_t *table, size_t c
 /* Says whether the table is a tree that fits the description, whoever proposed it, and only reads it. Answers TALUNG_OK if it is; else a refusal from 1 to 6, or
  * TALUNG_NO_ARRANGEMENT. */
 uint64_t talung_check(const uint16_t *words, size_t n, const uint8_t *table, size_t cells);
+
+/* A sheet is a description as people type it; docs/SHEETS.md shows how:
+ *
+ *     boards 4
+ *     0 : 5 ( 1 2 )
+ *     0 same or above 3
+ *
+ * The first line has the number of boards. A relation line is p, an expression and q. An expression has the words same, above, below, side, 'not' and 'inv' before
+ * an operand, 'and' and 'or' between two, and parentheses; 'not' and 'inv' bind tightest, then 'and', then 'or', and each is joined from the left. A kind line
+ * is p, a colon, the code, and the ways in parentheses. */
+
+/* Reads a sheet of so many bytes, of any length. Its description goes to the front of the words, and the answer counts them; room for TALUNG_MOST_WORDS is always
+ * enough. Answers TALUNG_OK; or TALUNG_NO_SHEET for the first malformed line, wherever it is; then a refusal of the description, never TALUNG_MISPLACED; then
+ * TALUNG_NO_ROOM. Room past the description stays as it came. */
+uint64_t talung_from_text(const char *text, size_t bytes, uint16_t *words, size_t room);
+
+/* Writes a description as a sheet, with only the parentheses that are needed. It goes to the front of the text, without a zero byte at its end, and the answer counts
+ * its bytes; room for TALUNG_MOST_TEXT is always enough. Answers TALUNG_OK; or a refusal from 1 to 5, then TALUNG_NO_ROOM. Room past the sheet stays as it
+ * came. Reading it back gives the same description. */
+uint64_t talung_to_text(const uint16_t *words, size_t n, char *text, size_t room);
 
 #ifdef __cplusplus
 }

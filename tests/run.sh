@@ -43,6 +43,8 @@ if [ "$(cat "$room/status")" -ne 0 ]; then
 fi
 passed=$((passed + ${verdict%% passed,*}))
 
+try "the library" make --no-print-directory lib
+
 # No two of these write the same file, so they run side by side. What each writes is kept, and told in this order.
 begin() { # NAME COMMAND...
     name=$1
@@ -56,7 +58,8 @@ ended() { # ID NAME
     cat "$room/$2"
     return "$status"
 }
-begin "the example in C" make --no-print-directory c_example
+begin "the example in C" sh tests/c_example.sh
+begin "the filters" sh tests/filters.sh
 begin "the examples of sites" sh tests/examples.sh
 begin "the program on stored inputs" sh tests/site.sh
 begin "the second program's answers" sh tests/second.sh

@@ -1,4 +1,5 @@
-/* Describes four sites in code, has them closed, searched and checked, and says what comes of it. To be linked with libtalung.a. */
+/* Describes four sites in code, has them closed, searched and checked, and says what comes of it; writes one of them as a sheet, and reads sheets. To be linked
+ * with libtalung.a. */
 #include <assert.h>
 #include <stdio.h>
 #include <string.h>
@@ -66,6 +67,8 @@ static const char *meaning(uint64_t answer)
     case TALUNG_NOWHERE: return "no tree fits";
     case TALUNG_RAN_OUT: return "the budget of tries ran out";
     case TALUNG_NO_ARRANGEMENT: return "this is no tree that fits";
+    case TALUNG_NO_ROOM: return "the room is too small";
+    case TALUNG_NO_SHEET: return "a line is malformed";
     default: return "good";
     }
 }
@@ -137,13 +140,42 @@ static void propose_beside(const struct site *s, uint8_t *table, uint32_t p, uin
     printf("  check with %s beside %s: %s\n", s->names[p], s->names[q], meaning(talung_check(s->words, s->n, table, s->boards * s->boards)));
 }
 
+/* Writes the site as a sheet, and sees that reading it gives the same description. */
+static void type(const struct site *s)
+{
+    char text[TALUNG_MOST_TEXT];
+    uint16_t words[TALUNG_MOST_WORDS];
+    uint64_t written = talung_to_text(s->words, s->n, text, sizeof text);
+    assert(talung_number(written) == TALUNG_OK);
+    printf("%s, as a sheet of %u bytes:\n%.*s", s->title, (unsigned)talung_count(written), (int)talung_count(written), text);
+    uint64_t made = talung_from_text(text, talung_count(written), words, TALUNG_MOST_WORDS);
+    assert(talung_number(made) == TALUNG_OK && talung_count(made) == s->n);
+    assert(memcmp(words, s->words, s->n * sizeof *words) == 0);
+}
+
+/* Reads a sheet, and says what it comes to. */
+static void read_sheet(const char *title, const char *text, size_t bytes)
+{
+    uint16_t words[TALUNG_MOST_WORDS];
+    uint64_t made = talung_from_text(text, bytes, words, TALUNG_MOST_WORDS);
+    if (talung_number(made) == TALUNG_NO_SHEET)
+        printf("%s: refused with %u, %s: line %u\n", title, (unsigned)talung_number(made), meaning(made), (unsigned)talung_count(made));
+    else
+        printf("%s: %s, words made: %u\n", title, meaning(made), (unsigned)talung_count(made));
+}
+
 int main(void)
 {
+    static const char at_or_above[] = "boards 2\n0 same or above 1\n";
+    static const char slip_of_the_key[] = "boards 2\n0 at or above 1\n";
     uint8_t table[TALUNG_MOST_CELLS];
     solve(&pair, table);
     solve(&panel, table);
     propose_beside(&panel, table, 3, 4);
     solve(&crowded, table);
     solve(&slip, table);
+    type(&panel);
+    read_sheet("'same or above'", at_or_above, sizeof at_or_above - 1);
+    read_sheet("'at or above'", slip_of_the_key, sizeof slip_of_the_key - 1);
     return 0;
 }

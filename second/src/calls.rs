@@ -1,14 +1,16 @@
-//! The calls: number and count of each, and the lent table afterwards.
+//! The calls: number and count of each, and the lent table or room afterwards.
 
 use crate::arrangement::is_arrangement;
 use crate::closing::closed;
 use crate::description::{self, Description, MOST_BOARDS};
+use crate::drafts::Draft;
 use crate::relations::ALL;
 use crate::search::{self, Ending};
 use crate::table::Table;
+use crate::typed;
 
 /// Number 0 is success, else the refusal number; the count is 0 unless said.
-#[derive(Clone, Copy, PartialEq)]
+#[derive(Clone, Copy, PartialEq, Debug)]
 pub struct Answer {
     pub number: u32,
     pub count: u32,
@@ -88,5 +90,52 @@ pub fn check(words: &[u16], cells: &[u8]) -> Answer {
         Ok((description, table)) if is_arrangement(&description, &table) => success(0),
         Ok(_) => refusal(10),
         Err(number) => refusal(number),
+    }
+}
+
+/// The words that a text makes: 20 with the number of the first malformed line (the largest count if it
+/// does not fit), then 1 to 5.
+pub fn words_of_text(text: &[u8]) -> Result<Vec<u16>, Answer> {
+    let draft = match typed::read(text) {
+        Ok(draft) => typed::cut(draft),
+        Err(line) => return Err(Answer { number: 20, count: u32::try_from(line).unwrap_or(u32::MAX) }),
+    };
+    let words = draft.words();
+    match description::read(&words) {
+        Ok(_) => Ok(words),
+        Err(number) => Err(refusal(number)),
+    }
+}
+
+/// The text of a description, or 1 to 5.
+pub fn text_of_words(words: &[u16]) -> Result<Vec<u8>, Answer> {
+    match description::read(words) {
+        Ok(_) => Ok(typed::written(&Draft::of_words(words))),
+        Err(number) => Err(refusal(number)),
+    }
+}
+
+/// Puts the words of a text at the front of the lent room and counts them; 20, 1 to 5, then 19.
+pub fn read_text(text: &[u8], room: &mut [u16]) -> Answer {
+    put(words_of_text(text), room)
+}
+
+/// Puts the text of a description at the front of the lent room and counts its bytes; 1 to 5, then 19.
+pub fn write_text(words: &[u16], room: &mut [u8]) -> Answer {
+    put(text_of_words(words), room)
+}
+
+/// Refusal 19: the lent room is too small for what was made.
+fn put<T: Copy>(made: Result<Vec<T>, Answer>, room: &mut [T]) -> Answer {
+    let made = match made {
+        Ok(made) => made,
+        Err(refused) => return refused,
+    };
+    match room.get_mut(..made.len()) {
+        Some(front) => {
+            front.copy_from_slice(&made);
+            success(made.len() as u32)
+        }
+        None => refusal(19),
     }
 }

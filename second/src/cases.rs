@@ -12,10 +12,13 @@ pub enum Call {
     Search,
     Check,
     Site,
+    Typed,
+    Texted,
 }
 
 /// The calls in the order of their numbers in the stream.
-pub const CALLS: [Call; 6] = [Call::Read, Call::Fresh, Call::Close, Call::Search, Call::Check, Call::Site];
+pub const CALLS: [Call; 8] =
+    [Call::Read, Call::Fresh, Call::Close, Call::Search, Call::Check, Call::Site, Call::Typed, Call::Texted];
 
 impl Call {
     /// The first word of an answer to this call.
@@ -27,15 +30,48 @@ impl Call {
             Call::Search => "search",
             Call::Check => "check",
             Call::Site => "site",
+            Call::Typed => "typed",
+            Call::Texted => "texted",
+        }
+    }
+
+    /// Whether a case of this call has bytes where the others have words.
+    fn has_bytes(self) -> bool {
+        matches!(self, Call::Site | Call::Typed)
+    }
+
+    /// The longest run of words or bytes in a case of this call.
+    fn longest_run(self) -> usize {
+        match self {
+            Call::Site => MOST_SITE_BYTES,
+            Call::Typed => MOST_TEXT_BYTES,
+            _ => MOST_WORDS,
+        }
+    }
+
+    /// The largest number in a case of this call.
+    fn largest_number(self) -> u32 {
+        match self {
+            Call::Typed => MOST_ROOM_WORDS as u32,
+            Call::Texted => MOST_ROOM_BYTES as u32,
+            _ => u32::MAX,
         }
     }
 }
 
 pub const MOST_WORDS: usize = 65_600;
 pub const MOST_SITE_BYTES: usize = 6_000;
+pub const MOST_TEXT_BYTES: usize = 131_200;
+pub const MOST_ROOM_WORDS: usize = 65_600;
+pub const MOST_ROOM_BYTES: usize = 32_768;
 pub const MOST_CELLS: usize = 512;
 
-/// One case: V for fresh and the budget for search stand in `number`.
+/// What stands in every place of a lent room before the call.
+const OLD_WORD: u16 = 42_405;
+const OLD_BYTE: u8 = 165;
+
+/// One case: V for fresh, the budget for search and the length of the lent room for typed and texted
+/// stand in `number`.
 #[derive(Clone, PartialEq)]
 pub struct Case {
     pub call: Call,
@@ -70,10 +106,20 @@ impl Case {
         Case { call: Call::Site, number: 0, words: Vec::new(), bytes: bytes.to_vec(), cells: Vec::new() }
     }
 
+    /// A text to be read into a room of so many words.
+    pub fn typed(text: &[u8], room: usize) -> Case {
+        Case { call: Call::Typed, number: room as u32, ..Case::site(text) }
+    }
+
+    /// A description to be written as text into a room of so many bytes.
+    pub fn texted(words: &[u16], room: usize) -> Case {
+        Case { call: Call::Texted, number: room as u32, ..Case::read(words) }
+    }
+
     /// The case as bytes of a stream.
     pub fn stream(&self) -> Vec<u8> {
-        let run = if self.call == Call::Site { self.bytes.clone() } else { little_endian_bytes(&self.words) };
-        let run_length = if self.call == Call::Site { self.bytes.len() } else { self.words.len() };
+        let run = if self.call.has_bytes() { self.bytes.clone() } else { little_endian_bytes(&self.words) };
+        let run_length = if self.call.has_bytes() { self.bytes.len() } else { self.words.len() };
         let mut stream = Vec::new();
         for number in [self.call as u32, self.number, run_length as u32, self.cells.len() as u32] {
             stream.extend_from_slice(&number.to_le_bytes());
@@ -83,10 +129,11 @@ impl Case {
         stream
     }
 
-    /// The words of the description, for site those that its bytes make.
+    /// The words of the description, for site and for a good text those that the bytes make.
     pub fn description_words(&self) -> Vec<u16> {
         match self.call {
             Call::Site => printing::little_endian_words(&self.bytes),
+            Call::Typed => calls::words_of_text(&self.bytes).unwrap_or_default(),
             _ => self.words.clone(),
         }
     }
@@ -117,17 +164,17 @@ impl<'a> Cases<'a> {
         let run_length = self.take_number()? as usize;
         let cell_count = self.take_number()? as usize;
         let call = *CALLS.get(call_number).ok_or(format!("there is no call {call_number}"))?;
-        let most = if call == Call::Site { MOST_SITE_BYTES } else { MOST_WORDS };
-        if run_length > most || cell_count > MOST_CELLS {
+        if run_length > call.longest_run() || number > call.largest_number() || cell_count > MOST_CELLS {
             return Err("a case is longer than the stream allows".to_string());
         }
-        let width = if call == Call::Site { 1 } else { 2 };
+        let width = if call.has_bytes() { 1 } else { 2 };
         let run = self.take_bytes(run_length * width)?;
         let cells = self.take_bytes(cell_count)?.to_vec();
         let case = Case { call, number, words: Vec::new(), bytes: Vec::new(), cells };
-        Ok(Some(match call {
-            Call::Site => Case { bytes: run.to_vec(), ..case },
-            _ => Case { words: printing::little_endian_words(run), ..case },
+        Ok(Some(if call.has_bytes() {
+            Case { bytes: run.to_vec(), ..case }
+        } else {
+            Case { words: printing::little_endian_words(run), ..case }
         }))
     }
 
@@ -146,17 +193,22 @@ impl<'a> Cases<'a> {
     }
 }
 
-/// What was answered: number and count (site: the text printed), and the table afterwards.
+/// What was answered: number and count (site: the text printed), and the table or the room afterwards.
 pub struct Answered {
     pub answer: Answer,
     pub cells: Vec<u8>,
     pub printed: String,
+    /// The room of typed.
+    pub word_room: Vec<u16>,
+    /// The room of texted.
+    pub byte_room: Vec<u8>,
 }
 
 /// Makes the call of the case.
 pub fn answered(case: &Case) -> Answered {
     let mut cells = case.cells.clone();
     let mut printed = String::new();
+    let (mut word_room, mut byte_room) = (Vec::new(), Vec::new());
     let answer = match case.call {
         Call::Read => calls::read(&case.words),
         Call::Fresh => calls::fresh(case.number, &mut cells),
@@ -167,8 +219,16 @@ pub fn answered(case: &Case) -> Answered {
             printed = printing::site(&case.bytes);
             Answer { number: 0, count: 0 }
         }
+        Call::Typed => {
+            word_room = vec![OLD_WORD; case.number as usize];
+            calls::read_text(&case.bytes, &mut word_room)
+        }
+        Call::Texted => {
+            byte_room = vec![OLD_BYTE; case.number as usize];
+            calls::write_text(&case.words, &mut byte_room)
+        }
     };
-    Answered { answer, cells, printed }
+    Answered { answer, cells, printed, word_room, byte_room }
 }
 
 /// The text of the answer to a case.
@@ -178,6 +238,8 @@ pub fn answer_text(case: &Case, answered: &Answered) -> String {
     match case.call {
         Call::Site => format!("site\n{}", answered.printed),
         Call::Read | Call::Check => format!("{name} {number} {count}\n"),
+        Call::Typed => format!("{name} {number} {count}{}\n", word_room_text(&answered.word_room, count)),
+        Call::Texted => format!("{name} {number} {count}{}\n", byte_room_text(&answered.byte_room, count)),
         _ => format!("{name} {number} {count} {}\n", table_text(&case.cells, &answered.cells)),
     }
 }
@@ -190,6 +252,35 @@ fn table_text(lent: &[u8], afterwards: &[u8]) -> String {
     afterwards.iter().map(|&cell| char::from_digit(cell as u32, 16).unwrap_or('?')).collect()
 }
 
+/// `same` if the room is as it came; else the words counted, and whether those past them are as they came.
+fn word_room_text(room: &[u16], count: u32) -> String {
+    if room.iter().all(|&word| word == OLD_WORD) {
+        return " same".to_string();
+    }
+    let (counted, past) = room.split_at(room.len().min(count as usize));
+    let words: String = counted.iter().map(|word| format!(" {word}")).collect();
+    format!("{words} {}", kept_text(past.iter().all(|&word| word == OLD_WORD)))
+}
+
+/// `same` if the room is as it came; else the bytes counted as they are, on lines of their own,
+/// and whether those past them are as they came.
+fn byte_room_text(room: &[u8], count: u32) -> String {
+    if room.iter().all(|&byte| byte == OLD_BYTE) {
+        return " same".to_string();
+    }
+    let (counted, past) = room.split_at(room.len().min(count as usize));
+    let text = String::from_utf8_lossy(counted);
+    format!("\n{text}{}", kept_text(past.iter().all(|&byte| byte == OLD_BYTE)))
+}
+
+fn kept_text(kept: bool) -> &'static str {
+    if kept {
+        "kept"
+    } else {
+        "lost"
+    }
+}
+
 /// The longest run of words or bytes that is shown whole.
 const MOST_SHOWN: usize = 3_000;
 
@@ -199,18 +290,22 @@ pub fn readable(case: &Case) -> String {
     match case.call {
         Call::Fresh => text.push_str(&format!(" of {} boards", case.number)),
         Call::Search => text.push_str(&format!(" with budget {}", case.number)),
+        Call::Typed => text.push_str(&format!(" into {} words", case.number)),
+        Call::Texted => text.push_str(&format!(" into {} bytes", case.number)),
         _ => {}
     }
     text.push('\n');
-    if case.call == Call::Site {
-        text.push_str(&format!("  {} bytes:{}\n", case.bytes.len(), numbers_text(&case.bytes)));
+    match case.call {
+        Call::Site => text.push_str(&format!("  {} bytes:{}\n", case.bytes.len(), numbers_text(&case.bytes))),
+        Call::Typed => text.push_str(&format!("  {} bytes: {}\n", case.bytes.len(), escaped_text(&case.bytes))),
+        _ => {}
     }
-    if case.call != Call::Fresh {
-        let words = case.description_words();
+    let words = case.description_words();
+    if !matches!(case.call, Call::Fresh | Call::Typed) || !words.is_empty() {
         text.push_str(&format!("  {} words:{}\n", words.len(), numbers_text(&words)));
         text.push_str(&description_text(&words));
     }
-    if !matches!(case.call, Call::Read | Call::Site) {
+    if matches!(case.call, Call::Fresh | Call::Close | Call::Search | Call::Check) {
         text.push_str(&format!("  {} cells:{}\n", case.cells.len(), numbers_text(&case.cells)));
     }
     text
@@ -223,6 +318,13 @@ fn numbers_text<N: std::fmt::Display>(numbers: &[N]) -> String {
         text.push_str(&format!(" and {} more", numbers.len() - MOST_SHOWN));
     }
     text
+}
+
+/// The bytes of a text, line feeds and odd ones escaped; a very long text is cut.
+fn escaped_text(bytes: &[u8]) -> String {
+    let shown = &bytes[..bytes.len().min(MOST_SHOWN)];
+    let cut = if shown.len() < bytes.len() { " and more" } else { "" };
+    format!("{}{cut}", shown.escape_ascii())
 }
 
 /// The lines of a good description, each with its meaning; else the refusal.

@@ -1,5 +1,6 @@
 //! What a stream of cases meets, and the comparison with another program.
 
+use crate::calls;
 use crate::cases::{answer_text, answered, readable, Answered, Call, Case, CALLS};
 use crate::description;
 use crate::making::Maker;
@@ -10,17 +11,23 @@ use std::process::{Command, Stdio};
 /// The cases in one batch of a comparison.
 const BATCH: usize = 1_000;
 
+/// The numbers that have a column each in a tally; one more column is for `input`.
+const NUMBERS: [usize; 13] = [0, 1, 2, 3, 4, 5, 6, 7, 8, 9, 10, 19, 20];
+
 /// How often each call gave each number (the last column: input), and what else was met.
 #[derive(Default)]
 pub struct Tally {
     cases: usize,
-    numbers: [[usize; 12]; 6],
+    numbers: [[usize; NUMBERS.len() + 1]; CALLS.len()],
     found_after_tries: usize,
     none_after_tries: usize,
     many_boards: usize,
     not_full: usize,
     not_symmetric: usize,
     with_empty_cell: usize,
+    rooms_just_enough: usize,
+    rooms_one_too_small: usize,
+    deepest_text: usize,
 }
 
 impl Tally {
@@ -29,7 +36,7 @@ impl Tally {
         self.cases += 1;
         let number =
             if case.call == Call::Site { number_printed(&answered.printed) } else { answered.answer.number as usize };
-        self.numbers[case.call as usize][number.min(11)] += 1;
+        self.numbers[case.call as usize][column(number)] += 1;
         if case.call == Call::Search && answered.answer.count > 0 {
             self.found_after_tries += (answered.answer.number == 0) as usize;
             self.none_after_tries += (answered.answer.number == 8) as usize;
@@ -38,6 +45,20 @@ impl Tally {
         self.many_boards += (boards >= 12) as usize;
         if matches!(case.call, Call::Close | Call::Search | Call::Check) {
             self.count_table(boards, &case.cells);
+        }
+        if matches!(case.call, Call::Typed | Call::Texted) {
+            self.count_text(case, answered);
+        }
+    }
+
+    /// Counts a lent room that is just long enough or one too small, and how deep a good text nests.
+    fn count_text(&mut self, case: &Case, answered: &Answered) {
+        let room = case.number as usize;
+        let enough = answered.answer.number == 0;
+        self.rooms_just_enough += (enough && answered.answer.count as usize == room) as usize;
+        self.rooms_one_too_small += (answered.answer.number == 19 && length_needed(case) == Some(room + 1)) as usize;
+        if enough {
+            self.deepest_text = self.deepest_text.max(deepest_parentheses(&case.bytes));
         }
     }
 
@@ -55,7 +76,7 @@ impl Tally {
     /// The table of what was met.
     pub fn text(&self) -> String {
         let mut text = String::from("number ");
-        for number in 0..11 {
+        for number in NUMBERS {
             text.push_str(&format!("{number:>8}"));
         }
         text.push_str("   input\n");
@@ -74,10 +95,18 @@ impl Tally {
             ("lent tables not full", self.not_full),
             ("lent tables not symmetric", self.not_symmetric),
             ("lent tables with an empty cell", self.with_empty_cell),
+            ("lent rooms just long enough", self.rooms_just_enough),
+            ("lent rooms one too small", self.rooms_one_too_small),
+            ("deepest parentheses read", self.deepest_text),
         ];
         rest.iter().for_each(|(name, count)| text.push_str(&format!("{name}: {count}\n")));
         text
     }
+}
+
+/// The column of a number; the last is for all that have none of their own.
+fn column(number: usize) -> usize {
+    NUMBERS.iter().position(|&known| known == number).unwrap_or(NUMBERS.len())
 }
 
 /// The number that the program printed: 0, a refusal, or 11 for `input`.
@@ -106,6 +135,28 @@ fn boards_of(case: &Case) -> usize {
         }
         _ => description::read(&case.description_words()).map_or(0, |description| description.boards),
     }
+}
+
+/// The length of the room that a good text or description needs.
+fn length_needed(case: &Case) -> Option<usize> {
+    match case.call {
+        Call::Typed => calls::words_of_text(&case.bytes).ok().map(|words| words.len()),
+        _ => calls::text_of_words(&case.words).ok().map(|text| text.len()),
+    }
+}
+
+/// The most parentheses open at once in a text.
+fn deepest_parentheses(text: &[u8]) -> usize {
+    let (mut open, mut most) = (0usize, 0);
+    for byte in text {
+        match byte {
+            b'(' => open += 1,
+            b')' => open = open.saturating_sub(1),
+            _ => {}
+        }
+        most = most.max(open);
+    }
+    most
 }
 
 /// Another program that answers a stream of cases.

@@ -35,6 +35,19 @@ impl Draft {
         Draft { boards, relations: Vec::new(), kinds: Vec::new(), left_over: [Vec::new(), Vec::new()] }
     }
 
+    /// The draft that a good run of words comes from.
+    pub fn of_words(words: &[u16]) -> Draft {
+        let mut draft = Draft::of(words[0] as usize);
+        let mut left = &words[HEADER..];
+        for line in 0..words[1] + words[2] {
+            let (p, second, count) = (left[0], left[1], left[2] as usize);
+            let (counted, rest) = left[3..].split_at(count);
+            draft = if line < words[1] { draft.line(p, second, counted) } else { draft.kind(p, second, counted) };
+            left = rest;
+        }
+        draft
+    }
+
     /// Adds a relation line by its expression.
     pub fn line(mut self, p: u16, q: u16, expression: &[u16]) -> Draft {
         self.relations.push(Relation { p, q, expression: expression.to_vec() });

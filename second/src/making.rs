@@ -1,4 +1,4 @@
-//! Cases by chance, a mix of all calls.
+//! Cases by chance: a mix of all calls, of those about tables, or of those about texts.
 
 use crate::calls;
 use crate::cases::{little_endian_bytes, Case, MOST_SITE_BYTES};
@@ -8,17 +8,37 @@ use crate::printing::{BUDGET, MOST_BYTES};
 use crate::relations::{converse, ALL, SINGLES};
 use crate::sheets::{any_sheet, behind_loose_boards, few_boards, hard_sheet, Sheet};
 use crate::spoiling::{spoilt, words_by_chance};
+use crate::texts::text_cases;
+
+/// The part of texts in a mix of all calls, in hundredths.
+const TEXTS: usize = 25;
 
 /// Makes cases one after another, the same from the same seed.
 pub struct Maker {
     chance: Chance,
+    mix: fn(&mut Chance) -> Vec<Case>,
     /// Cases made together and not yet given, the next one last.
     waiting: Vec<Case>,
 }
 
 impl Maker {
+    /// A maker of cases of all calls.
     pub fn from_seed(seed: u64) -> Maker {
-        Maker { chance: Chance::from_seed(seed), waiting: Vec::new() }
+        Maker::of(all_cases, seed)
+    }
+
+    /// A maker of cases without texts.
+    pub fn of_tables(seed: u64) -> Maker {
+        Maker::of(table_cases, seed)
+    }
+
+    /// A maker of cases of texts alone.
+    pub fn of_texts(seed: u64) -> Maker {
+        Maker::of(text_cases, seed)
+    }
+
+    fn of(mix: fn(&mut Chance) -> Vec<Case>, seed: u64) -> Maker {
+        Maker { chance: Chance::from_seed(seed), mix, waiting: Vec::new() }
     }
 
     /// The next case.
@@ -27,14 +47,23 @@ impl Maker {
             if let Some(case) = self.waiting.pop() {
                 return case;
             }
-            self.waiting = some_cases(&mut self.chance);
+            self.waiting = (self.mix)(&mut self.chance);
             self.waiting.reverse();
         }
     }
 }
 
+/// Cases of any call.
+fn all_cases(chance: &mut Chance) -> Vec<Case> {
+    if chance.percent(TEXTS) {
+        text_cases(chance)
+    } else {
+        table_cases(chance)
+    }
+}
+
 /// One case or several that belong together; at times none, if a search would take long.
-fn some_cases(chance: &mut Chance) -> Vec<Case> {
+fn table_cases(chance: &mut Chance) -> Vec<Case> {
     match chance.below(100) {
         0..=9 => refused_cases(chance),
         10..=13 => vec![Case::read(&any_sheet(chance).draft.words())],

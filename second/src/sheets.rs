@@ -45,7 +45,7 @@ fn any_board(chance: &mut Chance, boards: usize) -> u16 {
     chance.below(boards) as u16
 }
 
-fn any_relation(chance: &mut Chance, boards: usize, longest: usize) -> Relation {
+pub fn any_relation(chance: &mut Chance, boards: usize, longest: usize) -> Relation {
     let length = chance.between(1, longest);
     let expression = any_expression(chance, length);
     Relation { p: any_board(chance, boards), q: any_board(chance, boards), expression }

@@ -7,6 +7,7 @@ use crate::inputs::lengths;
 use crate::making::Maker;
 use crate::named::{good_drafts, refused_longest, refused_runs};
 use crate::relations::{converse, ALL, SINGLES};
+use crate::stored_texts;
 
 /// The cases made after the fixed ones, and their seed.
 const MADE: usize = 5_000;
@@ -25,8 +26,9 @@ pub fn all() -> Vec<Case> {
     cases.extend(fresh_tables());
     cases.extend(very_long_runs());
     cases.extend(refused_longest().iter().map(|(_, words)| Case::read(words)));
-    let mut maker = Maker::from_seed(SEED);
+    let mut maker = Maker::of_tables(SEED);
     cases.extend((0..MADE).map(|_| maker.next_case()));
+    cases.extend(stored_texts::all());
     cases
 }
 

@@ -3,5 +3,6 @@
 #define STDDEF_H
 
 typedef __SIZE_TYPE__ size_t;
+#define NULL ((void *)0)
 
 #endif

@@ -6,5 +6,6 @@
 
 void *memcpy(void *to, const void *from, size_t n);
 int memcmp(const void *one, const void *other, size_t n);
+size_t strlen(const char *text);
 
 #endif

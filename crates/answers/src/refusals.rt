@@ -30,6 +30,12 @@ pub const RAN_OUT: u8 = 9;
 // The check: the table is no arrangement.
 pub const NO_ARRANGEMENT: u8 = 10;
 
+// The text calls: the lent room is too small.
+pub const NO_ROOM: u8 = 19;
+
+// The text reader: a line of the text is malformed.
+pub const NO_SHEET: u8 = 20;
+
 // Why a description or what is lent with it is refused: the number of the refusal.
 pub struct Refusal {
     pub number: u8,

@@ -1,11 +1,12 @@
 // Runs the cases on standard input, one after the other, and writes what each call answers and leaves.
 //
 // A case begins with four numbers of 32 bits: its call, a number, how many words and how many cells it has; then come the words, of 16 bits, and the
-// cells, of a byte. All numbers are little-endian. The number is that of boards for a fresh table, and the budget for a search. A case of the program has
-// bytes for words. The run ends with the input, or at a case that is cut off or too large.
+// cells, of a byte. All numbers are little-endian. The number is that of boards for a fresh table, the budget for a search, and how much room is lent to a
+// text call. A case of the program, and one that reads a text, has bytes for words. The run ends with the input, or at a case that is cut off or too large.
 mod calls;
 mod fronts;
 mod says;
+mod texts;
 
 ghost use mathlib.Core.Path.{_≡_};
 ghost use Prim.Native.Nat.{_*_};
@@ -13,6 +14,7 @@ ghost use lib.ListN.{length};
 use crate::fronts::Front;
 use crate::fronts::beginning;
 use crate::says::say_page;
+use answers::widths::count_number;
 use libc::STDIN_FILENO;
 
 // The call that reads a description.
@@ -29,6 +31,12 @@ const CHECK: u32 = 4;
 
 // The call of a case of the program.
 const SITE: u32 = 5;
+
+// The call that reads a text.
+const FROM_TEXT: u32 = 6;
+
+// The call that writes a text.
+const TO_TEXT: u32 = 7;
 
 // The most words of a case.
 const CASE_WORDS: usize = 65600;
@@ -98,6 +106,49 @@ fn print(bytes: &mut [u8], lent: &mut [u8]) -> bool {
     true
 }
 
+// Runs a case that reads a text, which fills the bytes, with the words as room. Answers whether it was whole.
+fn type_in(bytes: &mut [u8], words: &mut [u16]) -> bool {
+    if !filled(bytes) {
+        return false;
+    }
+    texts::from_text(bytes, words);
+    true
+}
+
+// Runs a case that writes a text, whose words fill the bytes, in so much room. Answers whether it was whole and had room.
+fn type_out(bytes: &mut [u8], words: &mut [u16], room: usize) -> bool
+    requires { ⌜ length (now bytes) ≡ 2 * length (now words) ⌝ }
+{
+    if !filled(bytes) {
+        return false;
+    }
+    words::take_words(bytes, words);
+    texts::to_text(words, room)
+}
+
+// Runs the case of a text call with this front, in room for its bytes and words. Answers whether it was whole and had room.
+fn typed(f: Front, bytes: &mut [u8], words: &mut [u16]) -> bool {
+    let n = f.words;
+    let room = count_number(f.number);
+    if f.call == FROM_TEXT {
+        if bytes.len() < n {
+            return false;
+        }
+        if words.len() < room {
+            return false;
+        }
+        return type_in(&mut bytes[..n], &mut words[..room]);
+    }
+    if words.len() < n {
+        return false;
+    }
+    if bytes.len() / 2 < n {
+        return false;
+    }
+    let size = 2 * n;
+    type_out(&mut bytes[..size], &mut words[..n], room)
+}
+
 // Runs the case with this front, in room for its bytes, words and cells. Answers whether it was whole and had room.
 fn rest(f: Front, bytes: &mut [u8], words: &mut [u16], lent: &mut [u8], cells: &mut [u8]) -> bool {
     let n = f.words;
@@ -134,7 +185,14 @@ fn case(bytes: &mut [u8], words: &mut [u16], lent: &mut [u8], cells: &mut [u8]) 
     if !filled(&mut front) {
         return false;
     }
-    rest(beginning(front), bytes, words, lent, cells)
+    let f = beginning(front);
+    if f.call == FROM_TEXT {
+        return typed(f, bytes, words);
+    }
+    if f.call == TO_TEXT {
+        return typed(f, bytes, words);
+    }
+    rest(f, bytes, words, lent, cells)
 }
 
 fn main() {

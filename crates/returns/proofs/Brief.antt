@@ -23,7 +23,7 @@ whole-read : (v : ℕ) (rs ks : List (List ℕ)) → All IsLine rs → All IsLin
 whole-read v rs ks h k = read-described v rs ks ∙ rw (relation-section v rs h, kind-section v ks k)
 
 -- where they are good, each line is read by itself
-lines-good : (v : ℕ) (rs ks : List (List ℕ)) → All IsLine rs → All IsLine ks → (s : Sheet) → read (describe v rs ks) ≡ good s
+pub lines-good : (v : ℕ) (rs ks : List (List ℕ)) → All IsLine rs → All IsLine ks → (s : Sheet) → read (describe v rs ks) ≡ good s
     → Reads (relationLine v) rs (s .lines) × Reads (kindLine v) ks (s .kinds)
 lines-good v rs ks h k s e =
     go (lineByLine (relationLine v) rs) (lineByLine (kindLine v) ks) refl refl

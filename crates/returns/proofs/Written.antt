@@ -71,10 +71,10 @@ pub data TypableKind : List ℕ → Type 0 where
   typableKind : (p c : ℕ) (ys : List ℕ) → Typable p → Typable c → All Typable ys → TypableKind (p ∷ c ∷ length ys ∷ ys)
 
 -- they are lines
-relation-line : {w : List ℕ} → TypableRelation w → IsLine w
+pub relation-line : {w : List ℕ} → TypableRelation w → IsLine w
 relation-line (typableRelation p q e h k) = line p q (written e)
 
-kind-line : {w : List ℕ} → TypableKind w → IsLine w
+pub kind-line : {w : List ℕ} → TypableKind w → IsLine w
 kind-line (typableKind p c ys h k f) = line p c ys
 
 -- their symbols are known

@@ -2,6 +2,7 @@
 ghost use mathlib.Core.Path.{_≡_};
 ghost use Rattle.rules.specs.Search.{plainOrder};
 ghost use Rattle.rules.specs.Calls.{reading, fresh, close, searching, check};
+ghost use Rattle.typed.specs.Calls.{fromText, toText};
 ghost use Rattle.talung.specs.Packed.{packed, Packed};
 use answers::widths::byte_number;
 use answers::widths::count_number;
@@ -62,4 +63,22 @@ pub extern "C" fn talung_check(words: &[u16], table: &[u8]) -> u64
 {
     let checked = solver::check(words, table);
     pack(checked.number, checked.count)
+}
+
+// Reads a typed sheet: the words of its description go to the front of the lent room, as `reading::from_text` has them.
+#[no_mangle]
+pub extern "C" fn talung_from_text(text: &[u8], room: &mut [u16]) -> u64
+    ensures { λ n. ⌜ Packed n (now (room .exit)) (fromText (now (text .entry)) (now (room .entry))) ⌝ }
+{
+    let made = reading::from_text(text, room);
+    pack(made.number, made.count)
+}
+
+// Writes a description as it is typed: the text goes to the front of the lent room, as `writing::to_text` has it.
+#[no_mangle]
+pub extern "C" fn talung_to_text(words: &[u16], room: &mut [u8]) -> u64
+    ensures { λ n. ⌜ Packed n (now (room .exit)) (toText (now (words .entry)) (now (room .entry))) ⌝ }
+{
+    let written = writing::to_text(words, room);
+    pack(written.number, written.count)
 }

@@ -6,3 +6,4 @@ pub mod Scanning
 pub mod Writing
 pub mod Calls
 pub mod Brief
+pub mod Cases

@@ -1,0 +1,2 @@
+-- A typed kind line, as the code has it.
+pub mod Listing

@@ -1,0 +1,2 @@
+-- Words at their depth, as two runs of numbers.
+pub mod Items

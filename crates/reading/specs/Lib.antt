@@ -1,0 +1,2 @@
+-- What was gathered of a typed sheet, joined.
+pub mod Joined

@@ -1,0 +1,2 @@
+-- A typed relation line, as the code has it.
+pub mod Scans

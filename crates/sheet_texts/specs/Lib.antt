@@ -1,0 +1,3 @@
+-- What the functions of this crate promise.
+pub mod Sheets
+pub mod Lines

@@ -1,0 +1,6 @@
+-- The laws behind the functions of this crate.
+pub mod Fronts
+pub mod Digits
+pub mod Words
+pub mod Steps
+pub mod Determined

@@ -1,0 +1,2 @@
+-- Symbols as the code has them.
+pub mod Tokens

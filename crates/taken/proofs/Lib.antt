@@ -1,0 +1,2 @@
+-- What the contract of this crate determines.
+pub mod Determined

@@ -1,0 +1,2 @@
+-- What taking the words of a typed line answers and leaves.
+pub mod Lines

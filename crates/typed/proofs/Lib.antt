@@ -1,0 +1,2 @@
+-- The sheets to try, shown of the definitions.
+pub mod Shown

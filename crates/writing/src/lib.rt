@@ -1,0 +1,29 @@
+// The text writer: from the words of a description to its typed sheet.
+ghost use mathlib.Core.Path.{_≡_};
+ghost use Rattle.answers.specs.Answers.{outcome};
+ghost use Rattle.typed.specs.Calls.{toText};
+use answers::Answer;
+use answers::refusals::NO_ROOM;
+use answers::refuse;
+use answers::succeed;
+use puts::put_text;
+use sheet_texts::put_sheet;
+use sheet_texts::text_room;
+
+// Writes a description as it is typed: the text goes to the front of the lent room, and the answer has how many bytes it has. Refuses a description
+// with 1 to 5, then a room that is too small with 19; and then leaves the room as it came.
+pub fn to_text(words: &[u16], room: &mut [u8]) -> Answer
+    ensures { λ a. ⌜ outcome a (now (room .exit)) ≡ toText (now (words .entry)) (now (room .entry)) ⌝ }
+{
+    let read = solver::read(words);
+    if read.number != 0 {
+        return refuse(read.number, 0);
+    }
+    let mut text = text_room();
+    let used = put_sheet(words, &mut text);
+    if room.len() < used {
+        return refuse(NO_ROOM, 0);
+    }
+    put_text(room, 0, &text[..used]);
+    succeed(used as u32)
+}

@@ -1,6 +1,6 @@
 #!/bin/sh
-# Counts the instructions of the product's closings and searches beside those of the plain C versions, on the average of a group's sheets. Neither the load of
-# the machine nor where code lies in memory changes a count, so it compares two versions of the product where times are too near.
+# Counts the instructions of the product's calls beside those of the plain C versions, on the average of a group's sheets. Neither the load of the machine nor
+# where code lies in memory changes a count, so it compares two versions of the product where times are too near.
 # It needs dist/, which 'make lib' fills, and valgrind, which is installed with apt-get where it is not there.
 # Exit status: 0 counted; 2 something could not be built, or this is no x86-64 machine.
 set -eu

@@ -14,12 +14,15 @@ compile() { # FILE OBJECT WORDS...
 
 compile plain.c plain.o -O3
 compile plain_search.c plain_search.o -O3
-compile sites.c sites.o -O2
-compile sheets.c sheets.o -O2
-compile searches.c searches.o -O2
-compile driver.c driver.o -O2
+compile plain_text.c plain_text.o -O3
+parts=''
+for part in driver checks calls sheets searches texts sites; do
+    compile "$part.c" "$part.o" -O2
+    parts="$parts $built/$part.o"
+done
 
 link_bench() { # PROGRAM SHIFT: with the code of both versions moved on by SHIFT bytes
     compile shift.S shift.o "-DSHIFT=$2"
-    link_program "$1" "$built/driver.o" "$built/sheets.o" "$built/searches.o" "$built/sites.o" "$built/shift.o" "$built/plain.o" "$built/plain_search.o" "$library"
+    # shellcheck disable=SC2086
+    link_program "$1" $parts "$built/shift.o" "$built/plain.o" "$built/plain_search.o" "$built/plain_text.o" "$library"
 }

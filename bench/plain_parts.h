@@ -1,8 +1,18 @@
-/* What the closing and the search in plain C share: taking a description and a table, and closing a working copy. */
+/* What the calls in plain C share: reading a description, taking it with a table, and closing a working copy. */
 #ifndef PLAIN_PARTS_H
 #define PLAIN_PARTS_H
 
 #include "plain.h"
+
+/* The limits of a description. */
+enum {
+    HEADER_WORDS = 6,
+    HEAD_WORDS = 3,
+    MOST_LINES = 128,
+    MOST_KINDS = 16,
+    MOST_WORDS = 15,
+    MOST_WAYS = 8
+};
 
 /* An answer of this number and count. */
 static inline uint64_t answer(uint32_t number, uint32_t count)
@@ -16,6 +26,9 @@ struct header {
     size_t kinds;
     size_t kinds_at;
 };
+
+/* Reads the description of n words. Answers 0 or the first refusal. */
+int read_description(const uint16_t *words, size_t n, struct header *h);
 
 /* Reads the description of n words, and copies the table of m cells. Answers 0 or the first refusal. */
 int take(const uint16_t *words, size_t n, const uint8_t *table, size_t m, struct header *h, uint8_t *cells);

@@ -1,10 +1,10 @@
 #!/bin/sh
-# Measures the product's closing and search beside plain C versions of the same methods, and compares all that they answer.
+# Measures the product's calls beside plain C versions of the same methods, and compares all that they answer: closing, the search, reading and writing texts.
 # It needs dist/, which 'make lib' fills; what it builds itself goes to target/bench/. On another kind of machine than x86-64 its times say nothing.
 # Where code lies in memory can change a time by a third; under the emulator a loop that lies across the end of a page takes twice as long. So the program is
 # linked sixteen times, with the code of both versions moved on by 240 bytes each time, which goes over a page of 4,096 bytes and over every multiple of 16 within
 # 256. The times shown are averages over the sixteen. The ratio is the geometric mean of twelve of theirs, without the two lowest and the two highest.
-# Exit status: 0 measured; 1 the answers or tables differ, or a sheet is not answered as its group says; 2 something could not be built.
+# Exit status: 0 measured; 1 they answer or leave something else, or a sheet is not answered as its group says; 2 something could not be built.
 set -eu
 
 cd "$(dirname "$0")/.."
@@ -27,6 +27,7 @@ done
 awk '
     FNR == 1 { programs++; next }
     /^every/ { next }
+    /^the slowest/ { if ($(NF - 1) > slowest_text) slowest_text = $(NF - 1); next }
     {
         name = substr($0, 1, 14)
         sub(/ +$/, "", name)
@@ -48,5 +49,6 @@ awk '
             if (r > largest) { largest = r; slowest = name }
             printf "%-14s %6d %12.1f %12.1f %8.2f\n", name, sheets[name], product[name] / programs, plain[name] / programs, r
         }
-        printf "every answer and every table is the same; the largest ratio is %.2f (%s)\n", largest, slowest
+        printf "every answer and all that is left is the same; the largest ratio is %.2f (%s)\n", largest, slowest
+        printf "the slowest megabyte of text in one line took %.1f ms\n", slowest_text
     }' "$built"/times-*

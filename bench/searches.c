@@ -191,6 +191,7 @@ static void fill(struct group *g, const char *name, size_t count, size_t kinds, 
     g->name = name;
     g->task = SEARCH;
     g->count = count;
+    g->lent = MOST_TABLE;
     for (size_t i = 0; i < count; i++)
         make(&g->sheets[i], boards, i % kinds);
 }

@@ -285,6 +285,7 @@ static void fill(struct group *g, const char *name, size_t count, void (*make)(s
     g->name = name;
     g->task = CLOSE;
     g->count = count;
+    g->lent = MOST_TABLE;
     for (size_t i = 0; i < count; i++)
         make(&g->sheets[i]);
 }
@@ -295,6 +296,7 @@ static void fill_kinds(struct group *g, const char *name, size_t count, size_t k
     g->name = name;
     g->task = CLOSE;
     g->count = count;
+    g->lent = MOST_TABLE;
     for (size_t i = 0; i < count; i++)
         make(&g->sheets[i], i % kinds);
 }

@@ -1,4 +1,4 @@
-/* The sheets that are closed or searched: descriptions with the table that is lent for each, in groups. */
+/* The sheets that the calls work on: descriptions, with the table, the text or the room that is lent for each, in groups. */
 #ifndef SHEETS_H
 #define SHEETS_H
 
@@ -6,14 +6,19 @@
 
 enum {
     MOST_TABLE = 320,
+    MOST_ROOM = 16832,
     MOST_SHEETS = 48,
+    FULL_SHEETS = 8,
+    MEGABYTE = 1000000,
     BUDGET = 10000,
     CLOSED_GROUPS = 8,
-    SEARCHED_GROUPS = 10
+    SEARCHED_GROUPS = 10,
+    TEXT_GROUPS = 8
 };
 
 /* A description, the table and the budget lent with it, and the number that must be answered. Where the description was taken off a site, the site's
-   relation for each cell, which the closed table must still have, and which no arrangement found may come after; else zeros. */
+   relation for each cell, which the closed table must still have, and which no arrangement found may come after; else zeros. In the groups of texts, the text
+   that is read or that must be written, and for m the length of the lent room. */
 struct sheet {
     uint16_t words[TALUNG_MOST_WORDS];
     size_t n;
@@ -22,20 +27,26 @@ struct sheet {
     uint32_t budget;
     uint8_t number;
     uint8_t site[TALUNG_MOST_CELLS];
+    const char *text;
+    size_t bytes;
 };
 
 /* What is done with the sheets of a group. */
-enum task { CLOSE, SEARCH };
+enum task { CLOSE, SEARCH, READ, WRITE };
 
+/* Sheets with the same task. With each of them as many bytes are lent as the group says: its table or its room, and bytes past it, which must stay as they
+   came. A group that lends more than MOST_TABLE has at most FULL_SHEETS sheets. */
 struct group {
     const char *name;
     enum task task;
     size_t count;
+    size_t lent;
     struct sheet sheets[MOST_SHEETS];
 };
 
 /* Make the groups, the same in every run. */
 void make_closed_groups(struct group groups[CLOSED_GROUPS]);
 void make_searched_groups(struct group groups[SEARCHED_GROUPS]);
+void make_text_groups(struct group groups[TEXT_GROUPS]);
 
 #endif

@@ -208,12 +208,12 @@ static uint16_t *write_expression(uint16_t *at, size_t length, uint16_t relation
     return write_expression(at, length - 1 - first, relation, other);
 }
 
-static void add_drawn_line(struct sheet *s, const struct site *site, size_t longest, int holds)
+static void add_drawn_line(struct sheet *s, const struct site *site, size_t shortest, size_t longest, int holds)
 {
     uint16_t expression[MOST_WORDS];
     size_t p = below(site->boards);
     size_t q = below(site->boards);
-    size_t length = between(1, longest);
+    size_t length = between(shortest, longest);
     write_expression(expression, length, relation(site, p, q), holds);
     add_relation_line(s, p, q, expression, length);
 }
@@ -221,12 +221,18 @@ static void add_drawn_line(struct sheet *s, const struct site *site, size_t long
 void add_holding_lines(struct sheet *s, const struct site *site, size_t count, size_t longest)
 {
     for (size_t i = 0; i < count; i++)
-        add_drawn_line(s, site, longest, 1);
+        add_drawn_line(s, site, 1, longest, 1);
+}
+
+void add_longest_lines(struct sheet *s, const struct site *site, size_t count)
+{
+    for (size_t i = 0; i < count; i++)
+        add_drawn_line(s, site, MOST_WORDS, MOST_WORDS, 1);
 }
 
 void add_failing_line(struct sheet *s, const struct site *site, size_t longest)
 {
-    add_drawn_line(s, site, longest, 0);
+    add_drawn_line(s, site, 1, longest, 0);
 }
 
 void add_panel(struct sheet *s, const struct site *site, size_t p)

@@ -38,8 +38,9 @@ void add_kind_line(struct sheet *s, size_t p, uint16_t code, const uint16_t *way
 /* Adds a relation line that allows this set, which is not empty. */
 void add_set_line(struct sheet *s, size_t p, size_t q, uint8_t set);
 
-/* Adds relation lines on boards drawn, with expressions up to this long, that hold at the site; or one that does not. */
+/* Adds relation lines on boards drawn, with expressions up to this long, that hold at the site; or as long as they may be; or one that does not hold. */
 void add_holding_lines(struct sheet *s, const struct site *site, size_t count, size_t longest);
+void add_longest_lines(struct sheet *s, const struct site *site, size_t count);
 void add_failing_line(struct sheet *s, const struct site *site, size_t longest);
 
 /* Adds the kind line of the board p at the site; or of a board drawn among those with ways. */

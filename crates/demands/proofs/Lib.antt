@@ -1,7 +1,10 @@
--- What the contracts ask and teach, the three demands, the laws behind them, and calls that only look like calls.
+-- What the contracts ask and teach, the three demands and what is asked of typed sheets, the laws behind them, and calls that only look like calls.
+pub mod Rooms
 pub mod Contracts
 pub mod Refusing
 pub mod Finding
 pub mod Ending
 pub mod Demands
+pub mod Lines
+pub mod Texts
 pub mod Refuted

@@ -3,6 +3,7 @@ use mathlib.Core.Path.{_≡_}
 use mathlib.Core.List.{List}
 use Prim.Native.Nat.{ℕ}
 use Rattle.rules.specs.Calls.{reading, fresh, close, searching, check}
+use Rattle.typed.specs.Calls.{fromText, toText}
 use Rattle.answers.specs.declared.Answer.{Answer}
 use Rattle.answers.specs.Answers.{answered, outcome}
 
@@ -25,6 +26,14 @@ Searching ord ws t b a w = outcome a w ≡ searching ord ws t b
 -- the check may answer a of the lent table t, which it leaves as it came
 abbrev pub Checking : List ℕ → List ℕ → Answer → Type 0
 Checking ws t a = outcome a t ≡ check ws t
+
+-- reading the text may answer a and leave w of the lent room
+abbrev pub ReadingText : List ℕ → List ℕ → Answer → List ℕ → Type 0
+ReadingText text room a w = outcome a w ≡ fromText text room
+
+-- writing the words ws as a text may answer a and leave w of the lent room
+abbrev pub WritingText : List ℕ → List ℕ → Answer → List ℕ → Type 0
+WritingText ws room a w = outcome a w ≡ toText ws room
 
 -- a call that is lent the description ws and the table t may answer a and leave w
 pub data Call (ws t : List ℕ) (a : Answer) (w : List ℕ) : Type 0 where

@@ -12,8 +12,9 @@ use Rattle.typed.specs.Sheets.{noWays, wayBefore, atEnd, waysOf, malformedLine,
 use Rattle.symbols.specs.declared.Token.{Token}
 use Rattle.symbols.specs.Tokens.{noSymbol}
 use Rattle.symbols.proofs.Steps.{Stepped, ends, steps}
+use Rattle.symbols.proofs.Marks.{number-only, left-only, right-only, no-mark}
 use Rattle.kind_texts.specs.Listing.{none}
-use Rattle.kind_texts.proofs.Marks.{number-only, left-only, right-only, no-mark, no-code, no-left, no-way}
+use Rattle.kind_texts.proofs.Marks.{no-code, no-left, no-way}
 
 -- the symbols from a place on
 abbrev pub from : List ℕ → ℕ → List Symbol

@@ -8,7 +8,6 @@ ghost use Rattle.typed.specs.Symbols.{symbols};
 ghost use Rattle.typed.specs.Sheets.{waysOf, kindOf, codeOf};
 ghost use Rattle.taken.specs.Lines.{Took};
 ghost use Rattle.kind_texts.specs.Listing.{none, Keeps, Came, Puts};
-use answers::limits::LINE_WORDS;
 use answers::limits::MOST_WAYS;
 use symbols::BOARDS;
 use symbols::LEFT_PAREN;
@@ -16,6 +15,7 @@ use symbols::NO_SYMBOL;
 use symbols::RIGHT_PAREN;
 use symbols::symbol_at;
 use taken::Taken;
+use taken::put_start;
 use taken::put_words;
 
 // What the ways of a line came to: whether they are well-formed, and how many they are, up to one too many.
@@ -89,19 +89,17 @@ fn put_kind(
     requires { ⌜ (length (now ways) ≡ mostWays) × (count ≤ mostWays + 1) × (next + 11 ≤ length (now words)) ⌝ }
     ensures { λ r. ⌜ Puts board code (now (ways .entry)) count (now (words .entry)) next (now (words .exit)) r ⌝ }
 {
-    words[next] = board;
-    words[next + 1] = code;
-    words[next + 2] = count as u16;
+    let after = put_start(words, next, board, code, count as u16);
     if MOST_WAYS < count {
         return Taken {
             good: true,
-            next: next + LINE_WORDS,
+            next: after,
         };
     }
-    put_words(words, next + LINE_WORDS, &ways[..count]);
+    put_words(words, after, &ways[..count]);
     Taken {
         good: true,
-        next: next + LINE_WORDS + count,
+        next: after + count,
     }
 }
 

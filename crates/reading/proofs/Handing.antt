@@ -31,7 +31,7 @@ module _ (xs room : List ℕ) where
 number-of : Reading Sheet → ℕ
 number-of r = elim r [ good s ↦ 0 | refused n ↦ n ]
 
--- what is refused, and what is read
+-- what is refused
 pub given-refused : {L : Type 0} (ws : List ℕ) (l : L) (f : Sheet → Outcome L) → (reading ws ≡ 0 → ⊥) → refuse (reading ws) 0 l ≡ given (read ws) l f
 unfolding reading number-of
 given-refused {L} ws l f h = go (read ws) refl
@@ -40,10 +40,14 @@ given-refused {L} ws l f h = go (read ws) refl
     go (good s) e = absurd (h (ap number-of e))
     go (refused n) e = ap (λ (r : Reading Sheet). refuse (number-of r) 0 l) e ∙ sym (ap (λ (r : Reading Sheet). given r l f) e)
 
-pub given-read : {L : Type 0} (ws : List ℕ) (l : L) (o : Outcome L) → reading ws ≡ 0 → o ≡ given (read ws) l (λ s. o)
+-- words that are not refused are read as a sheet, and what follows from that holds
+pub read-good : {P : Type 0} (ws : List ℕ) → reading ws ≡ 0 → ((s : Sheet) → read ws ≡ good s → P) → P
 unfolding reading number-of
-given-read {L} ws l o h = go (read ws) refl
+read-good {P} ws h f = go (read ws) refl
   where
-    go : (r : Reading Sheet) → read ws ≡ r → o ≡ given (read ws) l (λ s. o)
-    go (good s) e = sym (ap (λ (r : Reading Sheet). given r l (λ s. o)) e)
+    go : (r : Reading Sheet) → read ws ≡ r → P
+    go (good s) e = f s e
     go (refused n) e = clash (omega (arith, h, ap number-of e, read-numbered ws n e .0))
+
+pub given-read : {L : Type 0} (ws : List ℕ) (l : L) (o : Outcome L) → reading ws ≡ 0 → o ≡ given (read ws) l (λ s. o)
+given-read {L} ws l o h = read-good ws h (λ s e. sym (ap (λ (r : Reading Sheet). given r l (λ s. o)) e))

@@ -60,7 +60,7 @@ pub fault-some : (text : List ℕ) (n : ℕ) → sheetParts (linesOf text) ≡ f
 fault-some text n e = malformed-first text n (text-typed text ∙ ap typedParts e) .some
 
 -- the words of lines are lines
-typed-lines : {ls rs ks : List (List ℕ)} → LinesTyped ls rs ks → (All IsLine rs) × (All IsLine ks)
+pub typed-lines : {ls rs ks : List (List ℕ)} → LinesTyped ls rs ks → (All IsLine rs) × (All IsLine ks)
 typed-lines none = (all-none IsLine, all-none IsLine)
 typed-lines (relationNext {w = w} s r t) = let h = typed-lines t in (all-append IsLine (w ∷ []) (all-one IsLine (relation-typed-line r)) (h .0), h .1)
 typed-lines (kindNext {w = w} s k t) = let h = typed-lines t in (h .0, all-append IsLine (w ∷ []) (all-one IsLine (kind-typed-line k)) (h .1))

@@ -13,12 +13,13 @@ use Rattle.typed.specs.Scanning.{Item, Scanned, malformed, scanned, preceded, l
 use Rattle.symbols.specs.declared.Token.{Token}
 use Rattle.symbols.specs.Tokens.{noSymbol}
 use Rattle.symbols.proofs.Steps.{Stepped, ends, steps}
+use Rattle.symbols.proofs.Marks.{OfSymbol, no-mark}
 use Rattle.spelled.proofs.Symbols.{Small}
 use Rattle.symbols.specs.Tokens.{mark}
 use Rattle.prefixes.specs.Items.{items}
 use Rattle.relation_texts.specs.declared.Found.{Found}
-use Rattle.relation_texts.specs.Scans.{itemOf, allowed, deeper, expects, OfSymbol, Keeps, Holds, Held, Ended}
-use Rattle.relation_texts.proofs.Marks.{never-none, closes, deeper-most}
+use Rattle.relation_texts.specs.Scans.{itemOf, allowed, deeper, expects, Keeps, Holds, Held, Ended}
+use Rattle.relation_texts.proofs.Marks.{closes, deeper-most}
 use Rattle.relation_texts.proofs.Moves.{preceded-none, preceded-twice, scan-passed, scan-stopped, scan-last, scan-none}
 
 -- the line from `at` on is gone over up to `next`: the words so far are kept, with so many parentheses open, where an operand is expected or not
@@ -76,7 +77,7 @@ module _ {line : List ℕ} {at : ℕ} {codes depths : List ℕ} {next depth : �
   -- nothing is left
   pub going-none : Stepped line next t → t .symbol ≡ noSymbol → (r : Found) → r .good ≡ false → Held (scan 0 true (symbols (drop at line))) codes depths r
   going-none (ends e i) h r f = malformed-rest (ap (scan depth expected) i ∙ scan-none depth expected) r f
-  going-none (steps s m e i l k) h r f = absurd (never-none (t .symbol) h s m e)
+  going-none (steps s m e i l k) h r f = absurd (no-mark (t .symbol) h s m e)
 
   module _ (n : Next line next t) where
     -- a board is left, after an expression or not

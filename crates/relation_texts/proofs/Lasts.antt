@@ -13,7 +13,7 @@ use Rattle.typed.specs.Scanning.{lastBoard}
 use Rattle.symbols.specs.declared.Token.{Token}
 use Rattle.symbols.specs.Tokens.{noSymbol}
 use Rattle.symbols.proofs.Steps.{Stepped, ends, steps}
-use Rattle.relation_texts.proofs.Marks.{never-none}
+use Rattle.symbols.proofs.Marks.{no-mark}
 use Rattle.relation_texts.specs.declared.Found.{Found}
 use Rattle.relation_texts.specs.Scans.{Ended}
 
@@ -48,4 +48,4 @@ module _ (q n : ℕ) (r : Found) where
         let b : (eqb d 0 && not e) ≡ true = ap (λ (x : Bool). x && not e) (eq-eqb d 0 z) ∙ ap not f in
         subst (λ (x : Bool). Ended (lastBoard x q (symbols (drop at line))) n r) (sym b)
         (subst (λ (ss : List Symbol). Ended (lastBoard true q ss) n r) (sym i) (g, p, c))
-    last-good (steps s m y i l k) h z f g p c = absurd (never-none (t .symbol) h s m y)
+    last-good (steps s m y i l k) h z f g p c = absurd (no-mark (t .symbol) h s m y)

@@ -1,4 +1,4 @@
--- The symbol with a number, and what it does. Assumes nothing.
+-- What the symbol with a number does. Assumes nothing.
 use mathlib.Core.Path.{_≡_, refl, sym, ap, _∙_}
 use mathlib.Core.Bool.{Bool, true, false, not}
 use mathlib.Core.List.{[]}
@@ -9,38 +9,10 @@ use lib.Dec.{leb, ltb}
 use Rattle.rules.proofs.Tests.{clash}
 use Rattle.typed.specs.Symbols.{Symbol, boards, colon, leftParen, rightParen, unknown, word, number}
 use Rattle.typed.specs.Scanning.{tightness, joins}
-use Rattle.symbols.specs.Tokens.{noSymbol}
-use Rattle.relation_texts.specs.Scans.{itemOf, allowed, deeper, expects, OfSymbol}
+use Rattle.symbols.proofs.Marks.{OfSymbol, right-only}
+use Rattle.relation_texts.specs.Scans.{itemOf, allowed, deeper, expects}
 
 module _ (n : ℕ) where
-  pub left-only : n ≡ 65538 → OfSymbol n (λ s. s ≡ leftParen)
-  left-only h boards t q = clash (omega arith)
-  left-only h colon t q = clash (omega arith)
-  left-only h leftParen t q = refl
-  left-only h rightParen t q = clash (omega arith)
-  left-only h unknown t q = clash (omega arith)
-  left-only h (word k) t q = clash (omega arith)
-  left-only h (number m) t q = clash (omega arith)
-
-  pub right-only : n ≡ 65539 → OfSymbol n (λ s. s ≡ rightParen)
-  right-only h boards t q = clash (omega arith)
-  right-only h colon t q = clash (omega arith)
-  right-only h leftParen t q = clash (omega arith)
-  right-only h rightParen t q = refl
-  right-only h unknown t q = clash (omega arith)
-  right-only h (word k) t q = clash (omega arith)
-  right-only h (number m) t q = clash (omega arith)
-
-  -- no symbol has the number that stands for none
-  pub never-none : n ≡ noSymbol → OfSymbol n (λ s. ⊥)
-  never-none h boards t q = clash (omega arith)
-  never-none h colon t q = clash (omega arith)
-  never-none h leftParen t q = clash (omega arith)
-  never-none h rightParen t q = clash (omega arith)
-  never-none h unknown t q = clash (omega arith)
-  never-none h (word k) t q = clash (omega arith)
-  never-none h (number m) t q = clash (omega arith)
-
   pub word-only : 65542 ≤ n → OfSymbol n (λ s. s ≡ word (n - 65542))
   word-only h boards t q = clash (omega arith)
   word-only h colon t q = clash (omega arith)
@@ -62,7 +34,7 @@ module _ (n : ℕ) where
 
   -- a parenthesis that may close was open
   pub closes : n ≡ 65539 → (d : ℕ) (e : Bool) → OfSymbol n (λ s. allowed s d e ≡ true → 1 ≤ d)
-  closes h d e s t q a = go e (sym (ap (λ (x : Symbol). allowed x d e) (right-only h s t q)) ∙ a)
+  closes h d e s t q a = go e (sym (ap (λ (x : Symbol). allowed x d e) (right-only n h s t q)) ∙ a)
     where
       go : (e : Bool) → allowed rightParen d e ≡ true → 1 ≤ d
       go true b = clash (cc)

@@ -10,8 +10,9 @@ use Rattle.rules.proofs.Tests.{clash}
 use Rattle.typed.specs.Symbols.{Symbol, boards, colon, leftParen, rightParen, unknown, word, number}
 use Rattle.typed.specs.Scanning.{Item, names, fits, Scanned, malformed, scanned, preceded, lastBoard, scan}
 use Rattle.symbols.specs.Tokens.{mark}
+use Rattle.symbols.proofs.Marks.{OfSymbol, number-only}
 use Rattle.prefixes.specs.Items.{item}
-use Rattle.relation_texts.specs.Scans.{itemOf, allowed, deeper, expects, OfSymbol}
+use Rattle.relation_texts.specs.Scans.{itemOf, allowed, deeper, expects}
 
 pub preceded-none : (r : Scanned) → r ≡ preceded [] r
 preceded-none malformed = refl
@@ -57,13 +58,7 @@ scan-stopped n l d e ss (number m) t q h = clash (omega arith)
 -- a number ends the expression
 pub scan-last : (n : ℕ) → n < 65536 → (d : ℕ) (e : Bool) (ss : List Symbol) → OfSymbol n (λ s. scan d e (s ∷ ss) ≡ lastBoard (eqb d 0 && not e) n ss)
 unfolding scan
-scan-last n l d e ss boards t q = clash (omega arith)
-scan-last n l d e ss colon t q = clash (omega arith)
-scan-last n l d e ss leftParen t q = clash (omega arith)
-scan-last n l d e ss rightParen t q = clash (omega arith)
-scan-last n l d e ss unknown t q = clash (omega arith)
-scan-last n l d e ss (word k) t q = clash (omega arith)
-scan-last n l d e ss (number m) t q = ap (λ (j : ℕ). lastBoard (eqb d 0 && not e) j ss) (sym q)
+scan-last n l d e ss s t q = ap (λ (x : Symbol). scan d e (x ∷ ss)) (number-only n l s t q)
 
 pub scan-none : (d : ℕ) (e : Bool) → scan d e [] ≡ malformed
 unfolding scan

@@ -6,7 +6,7 @@ use Prim.Native.Nat.{ℕ, suc, _+_, _≤_, _<_, min}
 use native.Mathlib.Omega.{arith}
 use borrow.Author.Tests.{le-leb, lt-leb, leb-true, leb-false}
 use lib.Dec.{leb}
-use lib.ListN.{length, getD, take}
+use lib.ListN.{length, take}
 use lib.Seq.{sets, length-take-le}
 use Rattle.rules.specs.Descriptions.{mostExpressionWords}
 use Rattle.rules.proofs.Tests.{clash}
@@ -17,6 +17,7 @@ use Rattle.phrases.proofs.Prefixed.{prefixed-length}
 use Rattle.prefixes.specs.Items.{items}
 use Rattle.prefixes.proofs.Items.{items-length}
 use Rattle.taken.specs.Lines.{Took, Begun}
+use Rattle.taken.proofs.Brief.{brief-whole, brief-cut}
 use Rattle.relation_texts.specs.declared.Found.{Found}
 use Rattle.relation_texts.specs.Scans.{Holds, Held, Ready, kept, PutRelation}
 
@@ -60,10 +61,6 @@ module _ {codes depths words : List ℕ} {next count : ℕ} (r : Ready codes dep
 
 -- ---- what is taken
 
--- the words of a line by whether they are too many
-by-limit : List ℕ → Bool → List ℕ
-by-limit w b = elim b [ true ↦ w | false ↦ getD w 0 0 ∷ getD w 1 0 ∷ suc mostExpressionWords ∷ [] ]
-
 module _ (p : ℕ) (words : List ℕ) (next : ℕ) (codes depths : List ℕ) (r : Found) where
   -- a malformed line leaves the words as they came
   pub took-nothing : (s : Scanned) → Held s codes depths r → r .good ≡ false
@@ -89,24 +86,23 @@ module _ (p : ℕ) (words : List ℕ) (next : ℕ) (codes depths : List ℕ) (r 
     brief-words : (xs : List Item) → Holds xs codes depths (r .count)
         → brief mostExpressionWords (p ∷ r .board ∷ length xs ∷ prefixed xs)
         ≡ p ∷ r .board ∷ r .count ∷ kept (leb (r .count) mostExpressionWords) codes depths (r .count)
-    unfolding brief by-limit
     brief-words xs t = go (leb (length xs) mostExpressionWords) refl
       where
         w : List ℕ
         w = p ∷ r .board ∷ length xs ∷ prefixed xs
 
         go : (b : Bool) → leb (length xs) mostExpressionWords ≡ b
-            → by-limit w (leb (length xs) mostExpressionWords) ≡ p ∷ r .board ∷ r .count ∷ kept (leb (r .count) mostExpressionWords) codes depths (r .count)
+            → brief mostExpressionWords w ≡ p ∷ r .board ∷ r .count ∷ kept (leb (r .count) mostExpressionWords) codes depths (r .count)
         go true e =
             let l : length xs ≤ mostExpressionWords = leb-true (length xs) mostExpressionWords e in
             let k : length xs ≡ r .count = omega (arith, t .count) in
-            ap (by-limit w) e ∙ ap (λ (n : ℕ). p ∷ r .board ∷ n ∷ prefixed xs) k
+            brief-whole mostExpressionWords w l ∙ ap (λ (n : ℕ). p ∷ r .board ∷ n ∷ prefixed xs) k
             ∙ ap (λ (ys : List Item). p ∷ r .board ∷ r .count ∷ prefixed ys) (sym (t .words l))
             ∙ ap (λ (b : Bool). p ∷ r .board ∷ r .count ∷ kept b codes depths (r .count)) (sym (le-leb (r .count) mostExpressionWords (omega arith)))
         go false e =
             let l : mostExpressionWords < length xs = leb-false (length xs) mostExpressionWords e in
             let k : suc mostExpressionWords ≡ r .count = omega (arith, t .count) in
-            ap (by-limit w) e ∙ ap (λ (n : ℕ). p ∷ r .board ∷ n ∷ []) k
+            brief-cut mostExpressionWords w l ∙ ap (λ (n : ℕ). p ∷ r .board ∷ n ∷ []) k
             ∙ ap (λ (b : Bool). p ∷ r .board ∷ r .count ∷ kept b codes depths (r .count)) (sym (lt-leb (r .count) mostExpressionWords (omega arith)))
 
     pub took-words : {after : List ℕ} {n : ℕ} → PutRelation codes depths words next p (r .board) (r .count) after n

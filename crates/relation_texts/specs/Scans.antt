@@ -9,8 +9,7 @@ use lib.ListN.{length, take}
 use Rattle.rules.specs.Descriptions.{mostExpressionWords}
 use Rattle.typed.specs.Symbols.{Symbol, boards, colon, leftParen, rightParen, unknown, word, number}
 use Rattle.typed.specs.Scanning.{Item, prefixed, names, fits, Scanned, malformed, scanned}
-use Rattle.symbols.specs.Tokens.{mark}
-use Rattle.spelled.proofs.Symbols.{Small}
+use Rattle.symbols.proofs.Marks.{OfSymbol}
 use Rattle.prefixes.specs.Items.{item, items}
 use Rattle.relation_texts.specs.declared.Found.{Found}
 
@@ -58,10 +57,6 @@ expects (number n) = false
 pub record Holds (xs : List Item) (codes depths : List ℕ) (n : ℕ) : Type 0 where
   pub count : n ≡ min (length xs) (suc mostExpressionWords)
   pub words : length xs ≤ mostExpressionWords → items (take n codes) (take n depths) ≡ xs
-
--- P holds of the symbol with this number
-abbrev pub OfSymbol : ℕ → (Symbol → Type 0) → Type 0
-OfSymbol n P = (s : Symbol) → Small s → n ≡ mark s → P s
 
 -- the word of a symbol is kept after those so far
 abbrev pub Keeps : ℕ → ℕ → List ℕ → List ℕ → ℕ → List ℕ → List ℕ → ℕ → Type 0

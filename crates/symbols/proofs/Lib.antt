@@ -3,4 +3,5 @@ pub mod Fronts
 pub mod Digits
 pub mod Words
 pub mod Steps
+pub mod Marks
 pub mod Determined

@@ -1,2 +1,3 @@
--- What the contract of this crate determines.
+-- The laws of the words of a line, and what the contract of this crate determines.
+pub mod Brief
 pub mod Determined

@@ -12,7 +12,7 @@ use Rattle.typed.specs.Sheets.{First, noBoards, boardsOf, boardsIn, firstOf}
 use Rattle.symbols.specs.declared.Token.{Token}
 use Rattle.symbols.specs.Tokens.{noSymbol}
 use Rattle.symbols.proofs.Steps.{Stepped, ends, steps}
-use Rattle.kind_texts.proofs.Marks.{OfSymbol, number-only, no-mark}
+use Rattle.symbols.proofs.Marks.{OfSymbol, number-only, no-mark}
 use Rattle.kind_texts.proofs.Moves.{from}
 use Rattle.text_lines.specs.declared.Opened.{Opened}
 use Rattle.text_lines.specs.Lines.{Opens}

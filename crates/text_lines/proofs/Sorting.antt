@@ -16,7 +16,7 @@ use Rattle.taken.specs.Lines.{Took}
 use Rattle.symbols.specs.declared.Token.{Token}
 use Rattle.symbols.proofs.Steps.{Stepped, ends, steps}
 use Rattle.relation_texts.proofs.Moves.{scan-none}
-use Rattle.kind_texts.proofs.Marks.{OfSymbol, number-only}
+use Rattle.symbols.proofs.Marks.{OfSymbol, number-only}
 use Rattle.kind_texts.proofs.Moves.{from}
 use Rattle.text_lines.specs.declared.Sorted.{Sorted}
 use Rattle.text_lines.specs.Lines.{LineTook, malformedSort, relationSort, kindSort, sortOf, Sorts}

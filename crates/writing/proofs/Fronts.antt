@@ -1,29 +1,19 @@
 -- A text that was put at the front of a room. Assumes nothing.
-use mathlib.Core.Path.{_≡_, refl, sym, ap, _∙_}
+use mathlib.Core.Path.{_≡_, sym, ap, _∙_}
 use mathlib.Core.List.{List, _++_}
 use Prim.Native.Nat.{ℕ, _+_, _≤_}
 use native.Mathlib.Omega.{arith}
 use lib.ListN.{length, take, drop}
 use lib.Seq.{sets-eq, take-at}
-use Rattle.rules.specs.Descriptions.{Sheet, Reading, good, refused, read}
 use Rattle.rules.specs.Calls.{reading}
-use Rattle.rules.proofs.Tests.{clash}
-use Rattle.rules.proofs.Descriptions.{read-numbered}
 use Rattle.puts.specs.Texts.{Put}
 use Rattle.puts.proofs.Putting.{put-length}
 use Rattle.sheet_texts.specs.Sheets.{Good}
-
-number-of : Reading Sheet → ℕ
-number-of r = elim r [ good s ↦ 0 | refused n ↦ n ]
+use Rattle.reading.proofs.Handing.{read-good}
 
 -- words that are not refused are those of a good description
 pub reads-good : (ws : List ℕ) → reading ws ≡ 0 → Good ws
-unfolding reading number-of
-reads-good ws h = go (read ws) refl
-  where
-    go : (r : Reading Sheet) → read ws ≡ r → Good ws
-    go (good s) e = record { sheet = s; reads = e }
-    go (refused n) e = clash (omega (arith, h, ap number-of e, read-numbered ws n e .0))
+reads-good ws h = read-good ws h (λ s e. record { sheet = s; reads = e })
 
 module _ {t xs u : List ℕ} {n : ℕ} (p : Put t 0 xs u n) (few : length xs ≤ length t) where
   pub front-size : n ≡ length xs

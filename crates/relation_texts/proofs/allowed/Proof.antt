@@ -6,8 +6,9 @@ use native.Mathlib.Omega.{arith}
 use lib.Dec.{ltb}
 use Rattle.typed.specs.Symbols.{Symbol, word}
 use Rattle.typed.specs.Scanning.{tightness, joins}
-use Rattle.relation_texts.specs.Scans.{allowed, OfSymbol}
-use Rattle.relation_texts.proofs.Marks.{left-only, right-only, word-only, disallowed, joining-fits, other-fits}
+use Rattle.symbols.proofs.Marks.{OfSymbol, left-only, right-only}
+use Rattle.relation_texts.specs.Scans.{allowed}
+use Rattle.relation_texts.proofs.Marks.{word-only, disallowed, joining-fits, other-fits}
 use Rattle.relation_texts.proofs.allowed.Statement.{statement}
 use Rattle.relation_texts.proofs.allowed.Tie as tie
 

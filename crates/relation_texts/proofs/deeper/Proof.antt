@@ -4,7 +4,8 @@ use native.Mathlib.Omega.{arith}
 use borrow.Author.Needs.{needs}
 use Rattle.typed.specs.Symbols.{Symbol}
 use Rattle.relation_texts.specs.Scans.{deeper}
-use Rattle.relation_texts.proofs.Marks.{left-only, right-only, as-deep}
+use Rattle.symbols.proofs.Marks.{left-only, right-only}
+use Rattle.relation_texts.proofs.Marks.{as-deep}
 use Rattle.relation_texts.proofs.deeper.Statement.{statement}
 use Rattle.relation_texts.proofs.deeper.Tie as tie
 

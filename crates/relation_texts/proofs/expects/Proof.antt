@@ -1,7 +1,8 @@
 -- `expects` meets its contract, by what symbol it is. Assumes nothing.
 use mathlib.Core.Path.{sym, ap}
 use Rattle.relation_texts.specs.Scans.{expects}
-use Rattle.relation_texts.proofs.Marks.{left-only, operator-expects}
+use Rattle.symbols.proofs.Marks.{left-only}
+use Rattle.relation_texts.proofs.Marks.{operator-expects}
 use Rattle.relation_texts.proofs.expects.Statement.{statement}
 use Rattle.relation_texts.proofs.expects.Tie as tie
 

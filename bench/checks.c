@@ -1,0 +1,245 @@
+/* That the product and plain C answer each sheet the same, leave the same, and answer as the sheet's group says. */
+#include <stdio.h>
+#include <stdlib.h>
+#include <string.h>
+
+#include "checks.h"
+
+/* What each sheet of the group at hand is answered, and what is then left of what was lent with it. */
+static uint64_t answers[MOST_SHEETS];
+static uint16_t lefts[FULL_SHEETS * MOST_ROOM / 2];
+
+static void *left(const struct group *g, size_t i)
+{
+    return (uint8_t *)lefts + i * g->lent;
+}
+
+/* ---- both */
+
+/* Ends the program, with what is wrong. */
+static _Noreturn void fail(const struct group *g, size_t i, const char *what)
+{
+    printf("%s, sheet %lu: %s\n", g->name, (unsigned long)i, what);
+    exit(1);
+}
+
+/* The product and plain C have answered a sheet: ends the program unless they say the same and leave the same. */
+static void compare(const struct group *g, size_t i, uint64_t product, const uint8_t *product_left, uint64_t plain, const uint8_t *plain_left)
+{
+    if (product != plain) {
+        printf("the product answers number %u count %u, plain C number %u count %u\n", talung_number(product), talung_count(product), talung_number(plain),
+               talung_count(plain));
+        fail(g, i, "the answers differ");
+    }
+    for (size_t k = 0; k < g->lent; k++) {
+        if (product_left[k] != plain_left[k]) {
+            printf("the product leaves %u at byte %lu, plain C %u\n", product_left[k], (unsigned long)k, plain_left[k]);
+            fail(g, i, "what they leave differs");
+        }
+    }
+}
+
+/* Has both do the group's task with a sheet, which is the i-th one or made of it. Answers what they do, and leaves what they leave. */
+static uint64_t answer_sheet(const struct group *g, size_t i, const struct sheet *s, void *lent)
+{
+    uint16_t other[MOST_ROOM / 2];
+    lend(g, s, lent);
+    lend(g, s, other);
+    uint64_t answer = by_plain[g->task](s, lent);
+    compare(g, i, by_product[g->task](s, other), (uint8_t *)other, answer, lent);
+    return answer;
+}
+
+void answer_group(const struct group *g)
+{
+    for (size_t i = 0; i < g->count; i++)
+        answers[i] = answer_sheet(g, i, &g->sheets[i], left(g, i));
+}
+
+void expect_kept(const struct group *g, size_t i, uint64_t answer, const void *lent)
+{
+    if (answer != answers[i] || memcmp(lent, left(g, i), g->lent))
+        fail(g, i, "answered otherwise than before");
+}
+
+/* Ends the program unless the answer has this number; and, if that is a refusal, no count but of tries, and what was lent is as it came. */
+static void expect(const struct group *g, size_t i, uint64_t answer, unsigned number, const void *lent)
+{
+    uint16_t as_it_came[MOST_ROOM / 2];
+    int counts = number == TALUNG_OK || number == TALUNG_NOWHERE || number == TALUNG_RAN_OUT;
+    if (talung_number(answer) != number || (!counts && talung_count(answer))) {
+        printf("answered number %u count %u, made for number %u\n", talung_number(answer), talung_count(answer), number);
+        fail(g, i, "not answered as it should be");
+    }
+    lend(g, &g->sheets[i], as_it_came);
+    if (number && memcmp(lent, as_it_came, g->lent))
+        fail(g, i, "refused, but what was lent is not as it came");
+}
+
+/* ---- tables */
+
+/* Ends the program unless the closed table has kept the site. */
+static void expect_site(const struct group *g, size_t i, const uint8_t *table)
+{
+    const struct sheet *s = &g->sheets[i];
+    for (size_t k = 0; k < TALUNG_MOST_CELLS; k++) {
+        if (s->site[k] & ~table[k])
+            fail(g, i, "a cell has lost the site's relation");
+    }
+}
+
+/* Ends the program unless the table is an arrangement, closed and of single relations, and does not come after the site in the order. */
+static void expect_arrangement(const struct group *g, size_t i, const uint8_t *table)
+{
+    const struct sheet *s = &g->sheets[i];
+    uint8_t closed[MOST_TABLE];
+    memcpy(closed, table, MOST_TABLE);
+    if (plain_close(s->words, s->n, closed, s->m))
+        fail(g, i, "the table found is not closed");
+    for (size_t k = 0; k < s->m; k++) {
+        if (table[k] & (table[k] - 1))
+            fail(g, i, "the table found has a cell of several relations");
+    }
+    if (s->site[0] && memcmp(table, s->site, s->m) > 0)
+        fail(g, i, "the arrangement found is not the least");
+}
+
+/* Searches a sheet with this budget by both, and leaves their table. */
+static uint64_t search(const struct group *g, size_t i, uint32_t budget, uint8_t *table)
+{
+    const struct sheet *s = &g->sheets[i];
+    uint8_t other[MOST_TABLE];
+    lend(g, s, table);
+    lend(g, s, other);
+    uint64_t answer = plain_search(s->words, s->n, table, s->m, budget);
+    compare(g, i, talung_search(s->words, s->n, other, s->m, budget), other, answer, table);
+    return answer;
+}
+
+/* Checks a sheet that is closed; and that the search refuses what closing refuses, a contradiction with no try, and else finds an arrangement. */
+static void check_closed(const struct group *g, size_t i)
+{
+    unsigned number = g->sheets[i].number;
+    expect_site(g, i, left(g, i));
+    uint8_t table[MOST_TABLE];
+    uint64_t answer = search(g, i, BUDGET, table);
+    expect(g, i, answer, number == TALUNG_CONTRADICTORY ? TALUNG_NOWHERE : number, table);
+    if (number == TALUNG_CONTRADICTORY && talung_count(answer))
+        fail(g, i, "tries in a contradictory table");
+    if (number == 0)
+        expect_arrangement(g, i, table);
+}
+
+/* Checks that a sheet which was given this answer runs out of another budget exactly if it takes more tries. */
+static void check_budget(const struct group *g, size_t i, uint64_t answer, uint32_t budget)
+{
+    uint8_t table[MOST_TABLE];
+    uint64_t other = search(g, i, budget, table);
+    int spent = talung_number(answer) == TALUNG_RAN_OUT || talung_count(answer) > budget;
+    expect(g, i, other, spent ? TALUNG_RAN_OUT : talung_number(answer), table);
+    if (talung_count(other) != (spent ? budget : talung_count(answer)))
+        fail(g, i, "another number of tries with another budget");
+}
+
+/* Checks a sheet that is searched, with its own budget and with others. */
+static void check_searched(const struct group *g, size_t i)
+{
+    uint64_t answer = answers[i];
+    uint32_t count = talung_count(answer);
+    if (talung_number(answer) == 0)
+        expect_arrangement(g, i, left(g, i));
+    if (count > 0)
+        check_budget(g, i, answer, count - 1);
+    check_budget(g, i, answer, count);
+    check_budget(g, i, answer, count + 1);
+}
+
+/* ---- texts */
+
+/* Ends the program unless the front of the room has the sheet's words or its text, the answer has how many they are, and the rest of the room is as it came. */
+static void expect_made(const struct group *g, size_t i, uint64_t answer, const void *room)
+{
+    const struct sheet *s = &g->sheets[i];
+    uint16_t made[MOST_ROOM / 2];
+    lend(g, s, made);
+    if (g->task == READ)
+        memcpy(made, s->words, s->n * sizeof s->words[0]);
+    else
+        memcpy(made, s->text, s->bytes);
+    if (talung_count(answer) != (g->task == READ ? s->n : s->bytes))
+        fail(g, i, "another length than it should have");
+    if (memcmp(room, made, g->lent))
+        fail(g, i, "the room has not what it should have");
+}
+
+/* Checks a sheet that is read or written in a room of this length. Its own room is just long enough. */
+static void check_room(const struct group *g, size_t i, size_t length)
+{
+    struct sheet s = g->sheets[i];
+    uint16_t room[MOST_ROOM / 2];
+    int too_small = s.number == 0 && length < s.m;
+    s.m = length;
+    uint64_t answer = answer_sheet(g, i, &s, room);
+    expect(g, i, answer, too_small ? TALUNG_NO_ROOM : s.number, room);
+    if (talung_number(answer) == 0)
+        expect_made(g, i, answer, room);
+}
+
+/* Has both read a short text with each of its bytes left out in turn. */
+static void compare_shorter(const struct group *g, size_t i)
+{
+    struct sheet s = g->sheets[i];
+    uint16_t room[MOST_ROOM / 2];
+    char text[MOST_TABLE];
+    s.text = text;
+    s.bytes--;
+    s.m = g->lent / sizeof room[0];
+    for (size_t k = 0; k <= s.bytes; k++) {
+        memcpy(text, g->sheets[i].text, k);
+        memcpy(text + k, g->sheets[i].text + k + 1, s.bytes - k);
+        answer_sheet(g, i, &s, room);
+    }
+}
+
+/* Has both write a short description with each of its words one larger in turn. */
+static void compare_larger(const struct group *g, size_t i)
+{
+    struct sheet s = g->sheets[i];
+    uint16_t room[MOST_ROOM / 2];
+    s.m = g->lent;
+    for (size_t k = 0; k < s.n; k++) {
+        s.words[k]++;
+        answer_sheet(g, i, &s, room);
+        s.words[k]--;
+    }
+}
+
+/* Checks a sheet that is read or written, in its own room and in others; and compares what both make of a short one that is spoilt. */
+static void check_text(const struct group *g, size_t i)
+{
+    const struct sheet *s = &g->sheets[i];
+    if (s->number == 0)
+        expect_made(g, i, answers[i], left(g, i));
+    check_room(g, i, 0);
+    check_room(g, i, s->m - 1);
+    check_room(g, i, s->m + 1);
+    if (s->bytes <= MOST_TABLE)
+        (g->task == READ ? compare_shorter : compare_larger)(g, i);
+}
+
+/* ---- groups */
+
+void check_group(const struct group *g)
+{
+    static void (*const checks[])(const struct group *, size_t) = {
+        [CLOSE] = check_closed,
+        [SEARCH] = check_searched,
+        [READ] = check_text,
+        [WRITE] = check_text,
+    };
+    answer_group(g);
+    for (size_t i = 0; i < g->count; i++) {
+        expect(g, i, answers[i], g->sheets[i].number, left(g, i));
+        checks[g->task](g, i);
+    }
+}

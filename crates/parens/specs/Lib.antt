@@ -1,0 +1,2 @@
+-- Parentheses that match.
+pub mod Pairs

@@ -156,6 +156,12 @@ static void check_searched(const struct group *g, size_t i)
 
 /* ---- texts */
 
+/* How many words or bytes a sheet has to be put into its room. */
+static size_t made_of(const struct group *g, const struct sheet *s)
+{
+    return g->task == READ ? s->n : s->bytes;
+}
+
 /* Ends the program unless the front of the room has the sheet's words or its text, the answer has how many they are, and the rest of the room is as it came. */
 static void expect_made(const struct group *g, size_t i, uint64_t answer, const void *room)
 {
@@ -166,18 +172,18 @@ static void expect_made(const struct group *g, size_t i, uint64_t answer, const 
         memcpy(made, s->words, s->n * sizeof s->words[0]);
     else
         memcpy(made, s->text, s->bytes);
-    if (talung_count(answer) != (g->task == READ ? s->n : s->bytes))
+    if (talung_count(answer) != made_of(g, s))
         fail(g, i, "another length than it should have");
     if (memcmp(room, made, g->lent))
         fail(g, i, "the room has not what it should have");
 }
 
-/* Checks a sheet that is read or written in a room of this length. Its own room is just long enough. */
+/* Checks a sheet that is read or written in a room of this length. */
 static void check_room(const struct group *g, size_t i, size_t length)
 {
     struct sheet s = g->sheets[i];
     uint16_t room[MOST_ROOM / 2];
-    int too_small = s.number == 0 && length < s.m;
+    int too_small = s.number == 0 && length < made_of(g, &s);
     s.m = length;
     uint64_t answer = answer_sheet(g, i, &s, room);
     expect(g, i, answer, too_small ? TALUNG_NO_ROOM : s.number, room);
@@ -221,8 +227,8 @@ static void check_text(const struct group *g, size_t i)
     if (s->number == 0)
         expect_made(g, i, answers[i], left(g, i));
     check_room(g, i, 0);
-    check_room(g, i, s->m - 1);
-    check_room(g, i, s->m + 1);
+    check_room(g, i, made_of(g, s) - 1);
+    check_room(g, i, made_of(g, s) + 1);
     if (s->bytes <= MOST_TABLE)
         (g->task == READ ? compare_shorter : compare_larger)(g, i);
 }

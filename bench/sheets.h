@@ -13,7 +13,7 @@ enum {
     BUDGET = 10000,
     CLOSED_GROUPS = 8,
     SEARCHED_GROUPS = 10,
-    TEXT_GROUPS = 8
+    TEXT_GROUPS = 10
 };
 
 /* A description, the table and the budget lent with it, and the number that must be answered. Where the description was taken off a site, the site's

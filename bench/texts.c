@@ -146,6 +146,17 @@ static void fill_written(struct group *g, const char *name, const struct group *
         g->sheets[i].m = g->sheets[i].bytes;
 }
 
+/* The first descriptions of a group that is written, each into a room for the longest text. */
+static void fill_roomy(struct group *g, const char *name, const struct group *written)
+{
+    *g = *written;
+    g->name = name;
+    g->count = FULL_SHEETS;
+    g->lent = MOST_ROOM;
+    for (size_t i = 0; i < g->count; i++)
+        g->sheets[i].m = TALUNG_MOST_TEXT;
+}
+
 void make_text_groups(struct group groups[TEXT_GROUPS])
 {
     seed(3);
@@ -157,4 +168,6 @@ void make_text_groups(struct group groups[TEXT_GROUPS])
     fill_read(&groups[5], "typed words", 1, MOST_TABLE, make_words);
     fill_written(&groups[6], "written small", &groups[0]);
     fill_written(&groups[7], "written full", &groups[1]);
+    fill_roomy(&groups[8], "small roomy", &groups[6]);
+    fill_roomy(&groups[9], "full roomy", &groups[7]);
 }

@@ -1,14 +1,9 @@
 -- What the code's contracts ask and teach, by the kit's own record of them: each function that is called from outside asks nothing, ends and does nothing
 -- undefined, and what is learnt of a call is what the demands are said of (`Entries`). Assumes nothing.
 use mathlib.Core.Path.{_≡_}
-use mathlib.Core.List.{List}
-use Prim.Native.Nat.{ℕ, _/_, _%_, _≤_}
-use native.Mathlib.Omega.{arith}
 use Rattle.rules.specs.Search.{plainOrder}
-use Rattle.rules.specs.Calls.{Outcome}
 use Rattle.contracts.specs.Contracts.{AsksNothing, Teaches}
-use Rattle.answers.specs.Answers.{outcome}
-use Rattle.talung.specs.Packed.{countUnit, packed, unpack, Packed}
+use Rattle.talung.specs.Packed.{unpack}
 use Rattle.talung.proofs.Packing.{unpacks, unpacks-read}
 use Rattle.talung.proofs.Numbers.{reading-numbered, fresh-numbered, close-numbered, searching-numbered, check-numbered}
 use Rattle.listing.specs.Listings.{inputLine, listing as prints}
@@ -173,19 +168,11 @@ c-search-learnt κs a x e h = unpacks (searching-numbered plainOrder (a .0 .now)
 pub c-check-learnt : Teaches 2 c-check-kinds.ps c-check-kinds.r c-check.Learnt (λ κs a x e. Checking (a .0 .now) (a .1 .0 .now) (unpack x))
 c-check-learnt κs a x e h = unpacks (check-numbered (a .0 .now) (a .1 .0 .now)) h
 
--- the text calls answer numbers up to 20
-unpacks-text : {o : Outcome (List ℕ)} {n : ℕ} {w : List ℕ} → o .number ≤ 20 → Packed n w o → outcome (unpack n) w ≡ o
-unpacks-text {o = o} {n = n} few p =
-    let e : n ≡ packed (o .number) (o .count) = p .answer in
-    let number : n % countUnit ≡ o .number = omega arith in
-    let count : n / countUnit ≡ o .count = omega arith in
-    λ i. record { number = number i; count = count i; lent = p .lent i }
-
 pub c-from-text-learnt : Teaches 2 c-from-text-kinds.ps c-from-text-kinds.r c-from-text.Learnt (λ κs a x e. ReadingText (a .0 .now) (a .1 .0 .now) (unpack x) (e .1 .0 .now))
-c-from-text-learnt κs a x e h = unpacks-text (from-text-few (a .0 .now) (a .1 .0 .now)) h
+c-from-text-learnt κs a x e h = unpacks (from-text-few (a .0 .now) (a .1 .0 .now)) h
 
 pub c-to-text-learnt : Teaches 2 c-to-text-kinds.ps c-to-text-kinds.r c-to-text.Learnt (λ κs a x e. WritingText (a .0 .now) (a .1 .0 .now) (unpack x) (e .1 .0 .now))
-c-to-text-learnt κs a x e h = unpacks-text (to-text-few (a .0 .now) (a .1 .0 .now)) h
+c-to-text-learnt κs a x e h = unpacks (to-text-few (a .0 .now) (a .1 .0 .now)) h
 
 -- Of the program's page: it is the one that 01 says, of the bytes that were read, or where none could be.
 pub listing-learnt : Teaches 1 listing-kinds.ps listing-kinds.r listing.Learnt (λ κs a x e. x ≡ page (prints (a .0 .now)))

@@ -9,7 +9,7 @@ use lib.Seq.{sets}
 use Rattle.rules.specs.Descriptions.{mostWays}
 use Rattle.typed.specs.Brief.{brief}
 use Rattle.taken.specs.Lines.{Begun}
-use Rattle.taken.proofs.Brief.{brief-whole, brief-cut}
+use Rattle.typed.proofs.Brief.{brief-whole, brief-cut}
 use Rattle.kind_texts.specs.Listing.{Puts}
 
 module _ {p c : ℕ} {room : List ℕ} {n : ℕ} {ws : List ℕ} {at : ℕ} {started : List ℕ} {next : ℕ} (b : Begun ws at p c n started next) where

@@ -2,7 +2,6 @@
 ghost use mathlib.Core.Path.{_≡_};
 ghost use Prim.Native.Nat.{_+_, _≤_};
 ghost use lib.ListN.{length, drop, replicate};
-ghost use lib.Seq.{sets};
 ghost use Rattle.rules.specs.Descriptions.{mostWays};
 ghost use Rattle.typed.specs.Symbols.{symbols};
 ghost use Rattle.typed.specs.Sheets.{waysOf, kindOf, codeOf};

@@ -1,6 +1,6 @@
 -- Parentheses that match. Assumes nothing.
 use mathlib.Core.Path.{_≡_}
-use mathlib.Core.Bool.{false, _||_}
+use mathlib.Core.Bool.{false}
 use mathlib.Core.List.{List, [], _∷_, _++_}
 use Rattle.typed.specs.Symbols.{Symbol, leftParen, rightParen, isLeft, isRight}
 

@@ -1,12 +1,12 @@
 -- What was gathered of a text, joined, is read as the words that the text makes. Assumes nothing.
 use mathlib.Core.Path.{_≡_, refl, sym, ap, ap₂, _∙_, subst}
 use mathlib.Core.Bool.{_&&_}
-use mathlib.Core.List.{List, [], _∷_, _++_, map, flatten, append-assoc}
-use Prim.Native.Nat.{ℕ, zero, suc, _+_, _-_, _*_, _≤_, _<_, min}
+use mathlib.Core.List.{List, [], _∷_, _++_, map, flatten}
+use Prim.Native.Nat.{ℕ, _+_, _-_, _≤_, _<_, min}
 use native.Mathlib.Omega.{arith}
 use lib.Dec.{T, leb, leb→le}
-use lib.ListN.{length, take, drop, length-append, length-drop, length-map}
-use lib.Seq.{sets, sets-eq, length-sets, take-all, take-append-add, drop-at, length-take-le}
+use lib.ListN.{length, take, drop, length-map}
+use lib.Seq.{sets, sets-eq, length-sets, take-all, take-append-add}
 use Rattle.rules.specs.Descriptions.{mostBoards, mostLines, mostKinds, mostExpressionWords, mostWays, mostWords, Sheet, Reading, good, refused, read, describe}
 use Rattle.rules.specs.Calls.{Outcome, refuse, given}
 use Rattle.rules.proofs.Tests.{clash, T-and-left, T-and-right}
@@ -15,7 +15,7 @@ use Rattle.rules.proofs.Members.{All, all-none, all-one, all-append}
 use Rattle.typed.specs.Brief.{brief}
 use Rattle.typed.specs.Symbols.{symbols}
 use Rattle.typed.specs.Grammar.{linesOf, LinesTyped, none, relationNext, kindNext}
-use Rattle.typed.specs.Sheets.{First, noBoards, boardsOf, firstOf, Lines, stopped, lines, linesFrom, Typed, malformedAt, made, sheet, typed}
+use Rattle.typed.specs.Sheets.{First, noBoards, boardsOf, firstOf, Lines, stopped, lines, linesFrom, Typed, sheet, typed}
 use Rattle.typed.specs.Calls.{mostCount, inRoom, readTyped, fromText}
 use Rattle.meanings.proofs.Sheets.{made-lines}
 use Rattle.meanings.proofs.Malformed.{malformed-first}

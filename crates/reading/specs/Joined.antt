@@ -1,8 +1,8 @@
 -- What was gathered of a typed sheet, joined in one description. Assumes nothing.
 use mathlib.Core.Path.{_≡_}
-use mathlib.Core.List.{List, [], _∷_, _++_}
+use mathlib.Core.List.{List, [], _∷_}
 use Prim.Native.Nat.{ℕ, _+_, _≤_}
-use lib.ListN.{length, take, drop}
+use lib.ListN.{length, take}
 use lib.Seq.{sets}
 use Rattle.rules.specs.Descriptions.{mostWords, mostLines, mostKinds}
 use Rattle.text_lines.specs.declared.Gathered.{Gathered}

@@ -1,8 +1,7 @@
 // The text reader: from a typed sheet to the words of its description.
 ghost use mathlib.Core.Path.{_≡_};
-ghost use mathlib.Core.List.{[], _∷_, _++_};
 ghost use Prim.Native.Nat.{_+_, _≤_, _<_, min};
-ghost use lib.ListN.{length, take, drop};
+ghost use lib.ListN.{length};
 ghost use lib.Seq.{sets};
 ghost use Rattle.rules.specs.Descriptions.{mostWords, read};
 ghost use Rattle.rules.specs.Calls.{given};

@@ -2,14 +2,13 @@
 use mathlib.Core.Path.{_≡_, refl, sym, ap, _∙_, subst}
 use mathlib.Core.Bool.{Bool, true, false, not, _&&_}
 use mathlib.Core.List.{List, [], _∷_, _++_, append-nil}
-use Prim.Native.Nat.{ℕ, zero, suc, _+_, _≤_, _<_, min}
+use Prim.Native.Nat.{ℕ, _+_, _≤_, _<_}
 use native.Mathlib.Omega.{arith}
 use lib.Dec.{eqb}
 use lib.ListN.{length, drop}
 use Rattle.rules.specs.Descriptions.{mostExpressionWords}
-use Rattle.rules.proofs.Tests.{clash}
 use Rattle.typed.specs.Symbols.{Symbol, symbols}
-use Rattle.typed.specs.Scanning.{Item, Scanned, malformed, scanned, preceded, lastBoard, scan}
+use Rattle.typed.specs.Scanning.{Item, Scanned, malformed, preceded, lastBoard, scan}
 use Rattle.symbols.specs.declared.Token.{Token}
 use Rattle.symbols.specs.Tokens.{noSymbol}
 use Rattle.symbols.proofs.Steps.{Stepped, ends, steps}

@@ -8,8 +8,7 @@ use borrow.Author.Tests.{ltb-false}
 use lib.Dec.{eqb}
 use Rattle.rules.proofs.Tests.{clash}
 use Rattle.typed.specs.Symbols.{Symbol, boards, colon, leftParen, rightParen, unknown, word, number}
-use Rattle.typed.specs.Scanning.{Item, names, fits, Scanned, malformed, scanned, preceded, lastBoard, scan}
-use Rattle.symbols.specs.Tokens.{mark}
+use Rattle.typed.specs.Scanning.{Item, names, Scanned, malformed, scanned, preceded, lastBoard, scan}
 use Rattle.symbols.proofs.Marks.{OfSymbol, number-only}
 use Rattle.prefixes.specs.Items.{item}
 use Rattle.relation_texts.specs.Scans.{itemOf, allowed, deeper, expects}

@@ -2,7 +2,7 @@
 use mathlib.Core.Path.{_≡_, refl, sym, ap, _∙_, subst}
 use mathlib.Core.Bool.{Bool, true, false}
 use mathlib.Core.List.{List, [], _∷_}
-use Prim.Native.Nat.{ℕ, suc, _+_, _≤_, _<_, min}
+use Prim.Native.Nat.{ℕ, suc, _+_, _≤_, _<_}
 use native.Mathlib.Omega.{arith}
 use borrow.Author.Tests.{le-leb, lt-leb, leb-true, leb-false}
 use lib.Dec.{leb}
@@ -17,7 +17,7 @@ use Rattle.phrases.proofs.Prefixed.{prefixed-length}
 use Rattle.prefixes.specs.Items.{items}
 use Rattle.prefixes.proofs.Items.{items-length}
 use Rattle.taken.specs.Lines.{Took, Begun}
-use Rattle.taken.proofs.Brief.{brief-whole, brief-cut}
+use Rattle.typed.proofs.Brief.{brief-whole, brief-cut}
 use Rattle.relation_texts.specs.declared.Found.{Found}
 use Rattle.relation_texts.specs.Scans.{Holds, Held, Ready, kept, PutRelation}
 

@@ -4,7 +4,7 @@ use mathlib.Core.Bool.{Bool, true, false}
 use mathlib.Core.List.{List, [], _∷_, _++_, map}
 use Prim.Native.Nat.{ℕ, suc, _+_, _≤_, _<_}
 use native.Mathlib.Omega.{arith}
-use borrow.Author.Tests.{leb-true, leb-false, le-leb}
+use borrow.Author.Tests.{leb-true, leb-false}
 use lib.Dec.{leb}
 use lib.ListN.{length, getD, length-map}
 use Rattle.rules.specs.Descriptions.{mostExpressionWords, mostWays, RelationLine, KindLine, Sheet, Reading, good, refused, Front, need, relationLine, kindLine, read, describe}
@@ -12,6 +12,7 @@ use Rattle.rules.proofs.Members.{All}
 use Rattle.rules.proofs.Readings.{never, need-rest}
 use Rattle.rules.proofs.Lines.{relation-misfits, relation-out, kind-misfits, kind-out}
 use Rattle.typed.specs.Brief.{brief}
+use Rattle.typed.proofs.Brief.{brief-whole}
 use Rattle.returns.proofs.Sections.{IsLine, line, StandsAlone, leaving, relation-alone, kind-alone, lineByLine, section-lines, relation-section, kind-section, Reads, none, more, lines-read}
 use Rattle.returns.proofs.Headers.{inRange, bothRead, read-described}
 
@@ -40,11 +41,6 @@ lines-good v rs ks h k s e =
     go (refused n) b p q d = never n s d
 
 -- ---- the lines cut
-
--- the words of a line that is not too long stay
-brief-whole : (m : ℕ) (w : List ℕ) → getD w 2 0 ≤ m → brief m w ≡ w
-unfolding brief
-brief-whole m w h = rw (le-leb (getD w 2 0) m h, brief)
 
 -- where a line that is too long is refused by its length alone, three words with a length that is one too many stand for it
 brief-alone : {X : Type 0} (read : List ℕ → Reading (Front X)) (m : ℕ) → StandsAlone read (λ w. w)

@@ -2,14 +2,14 @@
 use mathlib.Core.Path.{_≡_, refl, sym, ap, _∙_}
 use mathlib.Core.Bool.{Bool, true, false, _||_}
 use mathlib.Core.List.{List, [], _∷_}
-use Prim.Native.Nat.{ℕ, zero, suc, _+_, _-_, _≤_, _<_}
+use Prim.Native.Nat.{ℕ, suc, _+_, _-_, _≤_, _<_}
 use native.Mathlib.Numerals.{add-one}
 use native.Mathlib.Omega.{arith}
 use borrow.Author.Tests.{eq-eqb, ne-eqb}
 use lib.Dec.{eqb}
 use lib.ListN.{length, getD, take, drop, length-drop, drop-of-length-le}
 use lib.Seq.{drop-cons, length-take-le, drop-drop}
-use Rattle.typed.specs.Symbols.{Symbol, colon, leftParen, rightParen, blank, parts, run, symbolOf, Front, blanks, front, first, frontOf}
+use Rattle.typed.specs.Symbols.{Symbol, colon, leftParen, rightParen, blank, parts, run, symbolOf, Front, front, first, frontOf}
 use Rattle.symbols.specs.declared.Token.{Token}
 use Rattle.symbols.specs.Tokens.{mark, noSymbol, tokenOf, token, Skipped, RunEnd}
 

@@ -1,3 +1,2 @@
--- The laws of the words of a line, and what the contract of this crate determines.
-pub mod Brief
+-- What the contract of this crate determines.
 pub mod Determined

@@ -1,4 +1,4 @@
--- The number that a call answers is at most 10. Assumes nothing.
+-- The number that a call answers is one of those that are unpacked (`Packing`). Assumes nothing.
 use mathlib.Core.Path.{_≡_, refl}
 use mathlib.Core.Bool.{Bool, true, false, _&&_}
 use mathlib.Core.List.{List}
@@ -14,22 +14,23 @@ use Rattle.rules.specs.Search.{found, none, Capped, ended, ranOut, search, cap}
 use Rattle.rules.specs.Calls.{Outcome, refuse, succeed, wellFormed, admitted, given, reading, fresh, close, answer, searching, arranged, check}
 use Rattle.rules.proofs.Tests.{clash}
 use Rattle.rules.proofs.Descriptions.{read-numbered}
+use Rattle.talung.proofs.Packing.{mostNumber}
 
 abbrev Numbered : Outcome (List ℕ) → Type 0
-Numbered o = o .number ≤ 10
+Numbered o = o .number ≤ mostNumber
 
 either : (b : Bool) (x y : Outcome (List ℕ)) → Numbered x → Numbered y → Numbered (elim b [ true ↦ x | false ↦ y ])
 either true x y h k = h
 either false x y h k = k
 
-admitted-numbered : (ws t : List ℕ) (n : ℕ) → admitted ws t ≡ refused n → n ≤ 10
+admitted-numbered : (ws t : List ℕ) (n : ℕ) → admitted ws t ≡ refused n → n ≤ mostNumber
 unfolding admitted
 admitted-numbered ws t n p = by (read ws) refl p
   where
-    by : (r : Reading Sheet) → read ws ≡ r → next r (λ s. need 6 (wellFormed (s .boards) t) (good s)) ≡ refused n → n ≤ 10
+    by : (r : Reading Sheet) → read ws ≡ r → next r (λ s. need 6 (wellFormed (s .boards) t) (good s)) ≡ refused n → n ≤ mostNumber
     by (good s) e p = formed (wellFormed (s .boards) t) p
       where
-        formed : (b : Bool) → need 6 b (good s) ≡ refused n → n ≤ 10
+        formed : (b : Bool) → need 6 b (good s) ≡ refused n → n ≤ mostNumber
         formed true q = clash (cc)
         formed false q = let f : 6 ≡ n = cc in omega arith
     by (refused m) e p = let f : m ≡ n = cc in omega (arith, read-numbered ws m e)
@@ -41,11 +42,11 @@ given-numbered ws t f h = by (admitted ws t) refl
     by (good s) e = h s
     by (refused n) e = admitted-numbered ws t n e
 
-pub reading-numbered : (ws : List ℕ) → reading ws ≤ 10
+pub reading-numbered : (ws : List ℕ) → reading ws ≤ mostNumber
 unfolding reading
 reading-numbered ws = by (read ws) refl
   where
-    by : (r : Reading Sheet) → read ws ≡ r → elim r [ good s ↦ 0 | refused n ↦ n ] ≤ 10
+    by : (r : Reading Sheet) → read ws ≡ r → elim r [ good s ↦ 0 | refused n ↦ n ] ≤ mostNumber
     by (good s) e = omega arith
     by (refused n) e = omega (arith, read-numbered ws n e)
 

@@ -7,6 +7,10 @@ use Rattle.answers.specs.declared.Answer.{Answer}
 use Rattle.answers.specs.Answers.{answered, outcome}
 use Rattle.talung.specs.Packed.{countUnit, packed, unpack, Packed}
 
+-- the largest number that a call answers (`Numbers`, and of texts `Rooms` of the demands)
+abbrev pub mostNumber : ℕ
+mostNumber = 20
+
 module _ {L : Type 0} where
   pub packs : (o : Outcome L) (a : Answer) (w : L) (n : ℕ) → n ≡ packed (a .number) (a .count) → outcome a w ≡ o → Packed n w o
   packs o a w n e is =
@@ -19,15 +23,15 @@ module _ {L : Type 0} where
   pub packed-determined : {o : Outcome L} {m n : ℕ} {u w : L} → Packed m u o → Packed n w o → (m ≡ n) × (u ≡ w)
   packed-determined p q = (p .answer ∙ sym (q .answer), p .lent ∙ sym (q .lent))
 
--- of the numbers that calls answer, which are at most 10 (`Numbers`)
-pub unpacked : (n number count : ℕ) → number ≤ 10 → n ≡ packed number count → (n % countUnit ≡ number) × (n / countUnit ≡ count)
+-- number and count are read off the packed number
+pub unpacked : (n number count : ℕ) → number ≤ mostNumber → n ≡ packed number count → (n % countUnit ≡ number) × (n / countUnit ≡ count)
 unpacked n number count h e = (omega arith, omega arith)
 
 -- so the call's outcome is read off the number and what is lent
-pub unpacks : {L : Type 0} {o : Outcome L} {n : ℕ} {w : L} → o .number ≤ 10 → Packed n w o → outcome (unpack n) w ≡ o
+pub unpacks : {L : Type 0} {o : Outcome L} {n : ℕ} {w : L} → o .number ≤ mostNumber → Packed n w o → outcome (unpack n) w ≡ o
 unpacks {o = o} {n = n} few p =
     let u = unpacked n (o .number) (o .count) few (p .answer) in λ i. record { number = u .0 i; count = u .1 i; lent = p .lent i }
 
 -- of a call that is lent nothing to write to
-pub unpacks-read : {k n : ℕ} → k ≤ 10 → n ≡ packed k 0 → unpack n ≡ answered k 0
+pub unpacks-read : {k n : ℕ} → k ≤ mostNumber → n ≡ packed k 0 → unpack n ≡ answered k 0
 unpacks-read {k} {n} few e = let u = unpacked n k 0 few e in λ i. record { number = u .0 i; count = u .1 i }

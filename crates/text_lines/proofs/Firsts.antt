@@ -2,12 +2,12 @@
 use mathlib.Core.Path.{_≡_, refl, sym, ap, _∙_, subst}
 use mathlib.Core.Bool.{true, false}
 use mathlib.Core.List.{List, [], _∷_}
-use Prim.Native.Nat.{ℕ, zero, suc, _+_, _-_, _≤_, _<_}
+use Prim.Native.Nat.{ℕ, suc, _-_, _≤_}
 use native.Mathlib.Omega.{arith}
 use lib.ListN.{length, take, drop}
 use lib.Seq.{take-nil}
 use Rattle.rules.proofs.Tests.{clash}
-use Rattle.typed.specs.Symbols.{symbols, symbolsIn, frontOf}
+use Rattle.typed.specs.Symbols.{symbols, symbolsIn}
 use Rattle.typed.specs.Grammar.{linesOf}
 use Rattle.typed.specs.Sheets.{First, noBoards, boardsOf, firstOf, linesFrom}
 use Rattle.text_lines.specs.declared.Opened.{Opened}

@@ -1,29 +1,27 @@
 -- Lines gathered one after the other. Assumes nothing.
 use mathlib.Core.Path.{_≡_, refl, sym, ap, ap₂, _∙_, subst}
 use mathlib.Core.Bool.{Bool, true, false}
-use mathlib.Core.Logic.{_⊎_, inl, inr, ⊎-elim}
-use mathlib.Core.List.{List, [], _∷_, _++_, map, flatten, append-assoc, append-nil, List·Memᴰ, Memᴰ·append-left}
-use Prim.Native.Nat.{ℕ, zero, suc, _+_, _-_, _*_, _≤_, _<_}
+use mathlib.Core.Logic.{_⊎_, ⊎-elim}
+use mathlib.Core.List.{List, [], _∷_, _++_, append-assoc, append-nil, List·Memᴰ, Memᴰ·append-left}
+use Prim.Native.Nat.{ℕ, zero, suc, _+_, _-_, _≤_, _<_}
 use native.Mathlib.Omega.{arith}
-use borrow.Author.Tests.{ltb-true, ltb-false, lt-ltb, le-ltb, eq-eqb, ne-eqb}
-use lib.Dec.{ltb, eqb}
+use borrow.Author.Tests.{eq-eqb, ne-eqb}
+use lib.Dec.{ltb}
 use lib.ListN.{length, getD, take, drop, length-append, length-drop, length-take, take-append-drop, drop-of-length-le}
-use lib.Seq.{sets, length-sets, getD-drop, drop-drop, drop-cons, length-take-le}
+use lib.Seq.{getD-drop, drop-drop}
 use Rattle.rules.specs.Descriptions.{mostLines, mostKinds, mostExpressionWords, mostWays, mostWords}
 use Rattle.rules.proofs.Tests.{clash}
-use Rattle.rules.proofs.Members.{All, all-none, all-one, all-append, all-over}
-use Rattle.typed.specs.Brief.{brief}
+use Rattle.rules.proofs.Members.{All, all-none, all-one, all-append}
 use Rattle.typed.specs.Symbols.{symbols}
 use Rattle.typed.specs.Grammar.{linesOf}
 use Rattle.typed.specs.Sheets.{Line, malformedLine, relationWords, kindWords, lineOf, Lines, stopped, lines, lineBefore, linesFrom}
 use Rattle.returns.proofs.Sections.{IsLine}
 use Rattle.returns.proofs.Made.{relation-made-line, kind-made-line}
-use Rattle.returns.proofs.Brief.{brief-few}
 use Rattle.text_lines.specs.declared.Counts.{Counts}
 use Rattle.text_lines.specs.declared.Sorted.{Sorted}
 use Rattle.text_lines.specs.declared.Gathered.{Gathered}
 use Rattle.text_lines.specs.Lines.{lineFeed, LineEnd, Passed, LineTook, malformedSort, kindSort, movedOn, countedBy, countedWith, Countable}
-use Rattle.text_lines.specs.Gatherings.{partsOf, kindsRoom, Stored, Whole, Gathers}
+use Rattle.text_lines.specs.Gatherings.{partsOf, kindsRoom, Stored, Gathers}
 use Rattle.text_lines.proofs.Storing.{lines-few, stored-none, stored-next}
 
 -- ---- the lines of a text

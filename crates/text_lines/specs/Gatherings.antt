@@ -5,7 +5,6 @@ use Prim.Native.Nat.{ℕ, suc, _+_, _*_}
 use lib.ListN.{length, take, drop}
 use Rattle.rules.specs.Descriptions.{mostLines, mostKinds, mostExpressionWords, mostWays, describe}
 use Rattle.typed.specs.Symbols.{symbols}
-use Rattle.typed.specs.Grammar.{linesOf}
 use Rattle.typed.specs.Brief.{brief}
 use Rattle.typed.specs.Sheets.{First, noBoards, boardsOf, firstOf, Lines, stopped, lines, linesFrom, Typed, malformedAt, made}
 use Rattle.text_lines.specs.declared.Gathered.{Gathered}

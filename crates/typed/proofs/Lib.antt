@@ -1,2 +1,3 @@
--- The sheets to try, shown of the definitions.
+-- The words of a line that may be too long, and the sheets to try, shown of the definitions.
+pub mod Brief
 pub mod Shown

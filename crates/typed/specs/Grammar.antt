@@ -8,7 +8,7 @@ use lib.Dec.{eqb}
 use lib.ListN.{length, getD}
 use Rattle.rules.specs.Expressions.{Phrase, onlyE, onlyA, onlyB, onlyS, unionOf, intersectionOf, complementOf, inverseOf, written}
 use Rattle.rules.specs.Descriptions.{describe}
-use Rattle.typed.specs.Symbols.{Symbol, boards, colon, leftParen, rightParen, unknown, word, number, Spelled}
+use Rattle.typed.specs.Symbols.{Symbol, boards, colon, leftParen, rightParen, word, number, Spelled}
 
 -- ---- expressions
 

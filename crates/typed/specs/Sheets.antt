@@ -2,7 +2,7 @@
 -- Assumes nothing.
 use mathlib.Core.Bool.{true, false}
 use mathlib.Core.List.{List, [], _∷_}
-use Prim.Native.Nat.{ℕ, zero, suc}
+use Prim.Native.Nat.{ℕ, suc}
 use lib.ListN.{length}
 use Rattle.rules.specs.Descriptions.{describe}
 use Rattle.typed.specs.Symbols.{Symbol, isBoards, isColon, isLeft, isRight, ifNumber, symbols}

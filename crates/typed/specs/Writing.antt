@@ -7,7 +7,7 @@ use Prim.Native.Nat.{ℕ, zero, suc, _+_}
 use lib.Dec.{ltb}
 use lib.ListN.{length, getD, take, drop}
 use Rattle.rules.specs.Expressions.{Phrase, onlyE, onlyA, onlyB, onlyS, unionOf, intersectionOf, complementOf, inverseOf}
-use Rattle.typed.specs.Symbols.{Symbol, boards, colon, leftParen, rightParen, word, number, blank, spelling}
+use Rattle.typed.specs.Symbols.{Symbol, boards, colon, leftParen, rightParen, number, blank, spelling}
 use Rattle.typed.specs.Grammar.{same, above, below, side, or, and, not, inv}
 
 -- ---- an expression

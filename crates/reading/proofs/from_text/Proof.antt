@@ -1,15 +1,11 @@
 -- `from_text` meets its contract: what was gathered is joined, read and handed over. Assumes nothing.
-use mathlib.Core.Path.{_≡_, sym, ap, _∙_}
-use mathlib.Core.List.{List}
-use Prim.Native.Nat.{ℕ, _≤_, _<_}
+use mathlib.Core.Path.{sym, ap, _∙_}
+use Prim.Native.Nat.{ℕ, _≤_}
 use native.Mathlib.Omega.{arith}
-use lib.ListN.{length, take}
 use lib.Seq.{length-take-le}
 use Rattle.answers.specs.declared.Answer.{Answer}
 use Rattle.answers.specs.Answers.{outcome}
-use Rattle.rules.specs.Descriptions.{mostLines, mostKinds}
 use Rattle.rules.specs.Calls.{refuse}
-use Rattle.typed.specs.Grammar.{linesOf}
 use Rattle.text_lines.specs.Gatherings.{Parts}
 use Rattle.reading.proofs.Making.{read-parts, from-parts, joins, total-few, joined-read, many-relations, many-kinds, Parted, stopped-at, parted}
 use borrow.Author.Needs.{needs}

@@ -4,7 +4,7 @@ use mathlib.Core.List.{List}
 use Prim.Native.Nat.{ℕ}
 use lib.ListN.{length}
 use Rattle.answers.specs.declared.Answer.{Answer}
-use Rattle.answers.specs.Answers.{answered, outcome}
+use Rattle.answers.specs.Answers.{outcome}
 use Rattle.rules.specs.Calls.{refuse, succeed, reading}
 use Rattle.typed.specs.Calls.{inRoom}
 use Rattle.reading.proofs.Handing.{room-fits, room-small, given-refused, given-read}

@@ -4,7 +4,7 @@ use mathlib.Core.Bool.{Bool, true, not, _&&_}
 use Prim.Native.Nat.{ℕ, _-_, _≤_}
 use native.Mathlib.Omega.{arith}
 use lib.Dec.{ltb}
-use Rattle.typed.specs.Symbols.{Symbol, word}
+use Rattle.typed.specs.Symbols.{Symbol}
 use Rattle.typed.specs.Scanning.{tightness, joins}
 use Rattle.symbols.proofs.Marks.{OfSymbol, left-only, right-only}
 use Rattle.relation_texts.specs.Scans.{allowed}

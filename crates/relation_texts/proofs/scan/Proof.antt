@@ -1,16 +1,14 @@
 -- `scan` meets its contract: the symbols passed are those that may stand there, and their words are kept. The measure is what is left of the line.
 -- Assumes nothing.
-use mathlib.Core.Path.{_≡_, refl, sym, ap, _∙_}
-use mathlib.Core.Bool.{not}
-use Prim.Native.Nat.{ℕ, _-_, _≤_, _<_}
+use mathlib.Core.Path.{sym, _∙_}
+use Prim.Native.Nat.{_-_}
 use native.Mathlib.Omega.{arith}
 use borrow.Author.Tests.{not-true, not-false}
 use lib.ListN.{length}
 use Rattle.rules.proofs.Tests.{clash}
-use Rattle.symbols.specs.Tokens.{noSymbol}
-use Rattle.symbols.proofs.Steps.{Stepped, stepped}
+use Rattle.symbols.proofs.Steps.{stepped}
 use Rattle.relation_texts.proofs.Marks.{mark-small}
-use Rattle.relation_texts.proofs.Going.{Going, going-start, Next, next-symbol, going-none, going-last, going-stopped, going-closes, going-on}
+use Rattle.relation_texts.proofs.Going.{Going, going-start, next-symbol, going-none, going-last, going-stopped, going-closes, going-on}
 use Rattle.relation_texts.proofs.scan.Statement.{statement}
 use Rattle.relation_texts.proofs.scan.Tie as tie
 

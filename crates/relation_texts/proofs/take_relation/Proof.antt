@@ -1,7 +1,6 @@
 -- `take_relation` meets its contract: what the line came to is put, unless it is malformed. Assumes nothing.
-use mathlib.Core.Path.{_≡_, sym, ap, _∙_}
 use mathlib.Core.Bool.{true}
-use lib.ListN.{length, drop}
+use lib.ListN.{drop}
 use Rattle.typed.specs.Symbols.{symbols}
 use Rattle.typed.specs.Scanning.{scan}
 use borrow.Author.Tests.{not-true, not-false}

@@ -1,8 +1,8 @@
 -- `number_of` meets its contract: the bytes passed are the digits of the number so far. The measure is the bytes left. Assumes nothing.
-use mathlib.Core.Path.{_≡_, refl, sym, ap, _∙_, subst}
-use Prim.Native.Nat.{ℕ, _+_, _-_, _*_, _≤_, _<_}
+use mathlib.Core.Path.{sym, ap, _∙_}
+use Prim.Native.Nat.{_-_, _≤_, _<_}
 use native.Mathlib.Omega.{arith}
-use lib.ListN.{length, getD}
+use lib.ListN.{length}
 use Rattle.symbols.specs.Tokens.{mark, padded}
 use Rattle.symbols.proofs.Digits.{most-few, SoFar, none-so-far, next-so-far, nothing-spelled, too-long, padded-none, no-digit, too-large, spelled}
 use Rattle.symbols.proofs.number_of.Statement.{statement}

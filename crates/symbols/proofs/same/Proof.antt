@@ -8,7 +8,7 @@ use lib.ListN.{length, getD}
 use lib.Seq.{ext-getD}
 use Rattle.typed.specs.Symbols.{sameBytes}
 use Rattle.spelled.proofs.Runs.{bytes-same, other-bytes}
-use Rattle.rules.proofs.Tests.{equal, unequal, below-suc}
+use Rattle.rules.proofs.Tests.{below-suc}
 use Rattle.symbols.proofs.same.Statement.{statement}
 use Rattle.symbols.proofs.same.Tie as tie
 

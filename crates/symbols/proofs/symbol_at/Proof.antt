@@ -1,10 +1,9 @@
 -- `symbol_at` meets its contract, by the byte that its symbol begins with. Assumes nothing.
-use mathlib.Core.Path.{sym, ap, _∙_}
+use mathlib.Core.Path.{ap, _∙_}
 use Prim.Native.Nat.{ℕ, _<_}
 use native.Mathlib.Omega.{arith}
 use borrow.Author.Needs.{needs}
 use lib.ListN.{length}
-use Rattle.symbols.specs.declared.Token.{Token}
 use Rattle.symbols.proofs.Fronts.{token-none, token-colon, token-left, token-right, token-run}
 use Rattle.symbols.proofs.symbol_at.Statement.{statement}
 use Rattle.symbols.proofs.symbol_at.Tie as tie

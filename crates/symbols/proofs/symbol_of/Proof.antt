@@ -1,5 +1,5 @@
 -- `symbol_of` meets its contract: the words are tried in their order, and then the number. Assumes nothing.
-use mathlib.Core.Path.{_≡_, sym, ap, _∙_}
+use mathlib.Core.Path.{sym, ap, _∙_}
 use borrow.Author.Needs.{needs}
 use Rattle.symbols.specs.Tokens.{mark}
 use Rattle.symbols.proofs.Words.{is-boards, not-boards, word-here, word-next, word-none}

@@ -1,6 +1,5 @@
 -- `gather` meets its contract: the first line opens the sheet, and those after it are gathered. Assumes nothing.
-use mathlib.Core.Path.{_≡_, sym, _∙_}
-use native.Mathlib.Omega.{arith}
+use mathlib.Core.Path.{sym}
 use borrow.Author.Tests.{not-true, not-false}
 use lib.Seq.{length-take-le}
 use Rattle.text_lines.proofs.Firsts.{first-fault, first-some, first-rest}

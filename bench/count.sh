@@ -13,6 +13,7 @@ if ! command -v valgrind >/dev/null 2>&1; then
     { apt-get update && apt-get install -y valgrind; } >&2
 fi
 
+compile_parts
 program=$built/bench-0
 link_bench "$program" 0
 rm -f "$built"/counts*

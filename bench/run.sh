@@ -1,9 +1,10 @@
 #!/bin/sh
 # Measures the product's calls beside plain C versions of the same methods, and compares all that they answer: closing, the search, reading and writing texts.
-# It needs dist/, which 'make lib' fills; what it builds itself goes to target/bench/. On another kind of machine than x86-64 its times say nothing.
-# Where code lies in memory can change a time by a third; under the emulator a loop that lies across the end of a page takes twice as long. So the program is
-# linked sixteen times, with the code of both versions moved on by 240 bytes each time, which goes over a page of 4,096 bytes and over every multiple of 16 within
-# 256. The times shown are averages over the sixteen. The ratio is the geometric mean of twelve of theirs, without the two lowest and the two highest.
+# It needs dist/, which 'make lib' fills; what it builds itself goes to target/bench/. On another kind of machine than x86-64 it compares what the library answers
+# under the emulator, and then measures the library's module as compiled for that machine.
+# Where code lies in memory can change a time by a third. So the program is linked sixteen times, with the code of both versions moved on by 240 bytes each time,
+# which goes over a page of 4,096 bytes and over every multiple of 16 within 256. The times shown are averages over the sixteen. The ratio is the geometric mean of
+# twelve of theirs, without the two lowest and the two highest.
 # Exit status: 0 measured; 1 they answer or leave something else, or a sheet is not answered as its group says; 2 something could not be built.
 set -eu
 
@@ -11,16 +12,25 @@ cd "$(dirname "$0")/.."
 . tools/kit.sh
 . bench/parts.sh
 
-shift=0
-rm -f "$built"/times-*
-while [ "$shift" -lt 3840 ]; do
-    program=$built/bench-$shift
-    link_bench "$program" "$shift"
-    run_program "$program" >"$built/times-$shift" || {
+link_and_run() { # SHIFT: what the program prints goes to target/bench/times-SHIFT
+    link_bench "$built/bench-$1" "$1"
+    run_program "$built/bench-$1" >"$built/times-$1" || {
         status=$?
-        cat "$built/times-$shift" >&2
+        cat "$built/times-$1" >&2
         exit "$status"
     }
+}
+
+compile_parts
+rm -f "$built"/times-*
+if [ -n "$emulator" ]; then
+    link_and_run 0
+    . bench/native.sh
+    compile_parts
+fi
+shift=0
+while [ "$shift" -lt 3840 ]; do
+    link_and_run "$shift"
     shift=$((shift + 240))
 done
 

@@ -4,8 +4,9 @@
 test:
 	@sh tests/run.sh
 
-# make lib: the library that people link and its header, in dist/.
+# make lib: the library that people link and its header, in dist/. What it stands on is proved first, on all processors; rt staticlib alone would use one.
 lib:
+	@rt check talung
 	@rt staticlib talung
 	@mkdir -p dist
 	@cp include/talungbisay.h target/staticlib/libtalung.a dist/

@@ -21,10 +21,12 @@ expect() { # FILTER STATUS WHAT
     count=$((count + 1))
 }
 
-# Built first, so that what is said while building is not taken for an answer.
+# Built first, so that what is said while building is not taken for an answer; both at once, as a pipe does on first use.
+rm -rf target/filters
 printf 'boards 1\n' >"$room/in"
-./words <"$room/in" >"$room/wrote" || exit 2
-./text <"$room/wrote" >/dev/null || exit 2
+./words <"$room/in" | ./text >"$room/wrote" || exit 2
+cmp -s "$room/in" "$room/wrote" || differs "a pipe of filters that are not built yet: writes something else"
+count=$((count + 1))
 
 # Each sheet of examples/ makes its words, and the words written and read again are the same.
 : >"$room/err"

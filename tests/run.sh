@@ -3,6 +3,7 @@
 # runs the programs over what is stored; then what it built is tried as users have it. The last line is the verdict over all, 'N passed, 0 failed'.
 set -u
 cd "$(dirname "$0")/.."
+. tools/kit.sh
 
 room=$(mktemp -d) || exit 2
 trap 'rm -rf "$room"' EXIT
@@ -32,9 +33,6 @@ hold_last() {
     done
     printf '%s\n' "$held" >"$room/last"
 }
-# rt waits for each batch of RT_JOBS to end, so twice as many as there are processors leave none of them idle.
-: "${RT_JOBS:=$(($(nproc) * 2))}"
-export RT_JOBS
 { rt ci 2>&1; echo "$?" >"$room/status"; } | hold_last
 verdict=$(cat "$room/last")
 if [ "$(cat "$room/status")" -ne 0 ]; then

@@ -1,5 +1,5 @@
-# What the scripts share, to be sourced at the top of the repository: where the Rattle kit is, and how a C file is compiled, a program linked and a program run
-# with it. All programs are for x86-64: on another kind of machine they run under the kit's emulator, and their times say nothing.
+# What the scripts share, to be sourced at the top of the repository: where the Rattle kit is, and how something is built alone, a C file compiled, a program
+# linked and a program run with it. All programs are for x86-64: on another kind of machine they run under the kit's emulator, and their times say nothing.
 
 die() { # WORDS...: something could not be built
     printf '%s: %s\n' "${0##*/}" "$*" >&2
@@ -14,6 +14,14 @@ toolchain=$own/toolchain
 emulator=$toolchain/bin/qemu-x86_64
 [ -x "$emulator" ] || emulator=''
 under='' # a command that watches the programs that are run, with its words
+
+# rt waits for each batch of RT_JOBS to end, so twice as many as there are processors leave none of them idle.
+: "${RT_JOBS:=$(($(nproc) * 2))}"
+export RT_JOBS
+
+alone() { # COMMAND...: while nothing else is built here, since two builds at once would write the same files; the later one waits
+    (flock 9 && "$@") 9<.
+}
 
 compile_c() { # SOURCE OBJECT WORDS...: with C's headers as far as tools/headers/ declares them, since the kit has none
     source=$1 object=$2

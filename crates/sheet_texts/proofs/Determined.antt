@@ -10,4 +10,4 @@ pub text-room-determined : OneResult 0 text-room-kinds.ps text-room-kinds.r text
 text-room-determined κs a asked x y d e p q = p ∙ sym q
 
 pub put-sheet-determined : OneOutcome 2 put-sheet-kinds.ps put-sheet-kinds.r put-sheet.Asked put-sheet.Learnt (λ κs e. e .1 .0 .now)
-put-sheet-determined κs a asked x y d e p q = (p .next ∙ sym (q .next), p .text ∙ sym (q .text))
+put-sheet-determined κs a asked x y d e p q = (p .put .next ∙ sym (q .put .next), p .put .text ∙ sym (q .put .text))

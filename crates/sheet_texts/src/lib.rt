@@ -5,8 +5,8 @@ ghost use Prim.Native.Nat.{_≤_};
 ghost use lib.ListN.{length, replicate};
 ghost use Rattle.puts.specs.Texts.{HasRoom, Put};
 ghost use Rattle.typed.specs.Symbols.{boards, number};
-ghost use Rattle.typed.specs.Writing.{relationTyping, kindTyping, spaced, lineText, textOf};
-ghost use Rattle.sheet_texts.specs.Sheets.{Good, mostText};
+ghost use Rattle.typed.specs.Writing.{relationTyping, kindTyping, spaced, lineText};
+ghost use Rattle.sheet_texts.specs.Sheets.{Good, mostText, PutsSheet};
 ghost use Rattle.sheet_texts.specs.Lines.{IsRelation, IsKind, HasLine, HasLines, lastText, panelText, waysText, frontText, linesText, PutsLine};
 use answers::limits::HEADER_WORDS;
 use answers::limits::LINE_WORDS;
@@ -157,7 +157,7 @@ fn put_kinds(words: &[u16], count: usize, text: &mut [u8], from: usize) -> usize
 // Puts the text of a good description at the front of a text that has room for the longest, and answers its length.
 pub fn put_sheet(words: &[u16], text: &mut [u8]) -> usize
     requires { ⌜ Good (now words) × (mostText ≤ length (now text)) ⌝ }
-    ensures { λ r. ⌜ Put (now (text .entry)) 0 (textOf (now (words .entry))) (now (text .exit)) r ⌝ }
+    ensures { λ r. ⌜ PutsSheet (now (words .entry)) (now (text .entry)) (now (text .exit)) r ⌝ }
 {
     let v = word_number(words[0]);
     let relations = word_number(words[1]);

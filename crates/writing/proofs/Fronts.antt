@@ -3,25 +3,35 @@ use mathlib.Core.Path.{_≡_, sym, ap, _∙_}
 use mathlib.Core.List.{List}
 use Prim.Native.Nat.{ℕ, _+_, _≤_}
 use native.Mathlib.Omega.{arith}
-use lib.ListN.{length, take, drop}
+use lib.ListN.{length, take, drop, replicate}
 use lib.Seq.{sets-eq, take-at}
 use Rattle.rules.specs.Calls.{reading}
-use Rattle.puts.specs.Texts.{Put}
+use Rattle.typed.specs.Writing.{textOf}
 use Rattle.puts.proofs.Putting.{put-length}
-use Rattle.sheet_texts.specs.Sheets.{Good}
+use Rattle.sheet_texts.specs.Sheets.{Good, mostText, PutsSheet}
 use Rattle.reading.proofs.Handing.{read-good}
 
 -- words that are not refused are those of a good description
 pub reads-good : (ws : List ℕ) → reading ws ≡ 0 → Good ws
 reads-good ws h = read-good ws h (λ s e. record { sheet = s; reads = e })
 
-module _ {t xs u : List ℕ} {n : ℕ} (p : Put t 0 xs u n) (few : length xs ≤ length t) where
-  pub front-size : n ≡ length xs
-  front-size = omega (arith, p .next)
+-- the room that a text is made in has space for the longest
+pub room-enough : {t : List ℕ} → t ≡ replicate mostText 0 → mostText ≤ length t
+room-enough e = omega (arith, ap length e)
 
-  pub front-inside : n ≤ length u
-  front-inside = omega (arith, front-size, put-length p)
+module _ {ws t u : List ℕ} {n : ℕ} (p : PutsSheet ws t u n) where
+  pub front-size : n ≡ length (textOf ws)
+  front-size = omega (arith, p .put .next)
 
-  pub front-text : take n u ≡ xs
-  front-text =
-      ap (take n) (p .text ∙ sets-eq xs t 0 (omega arith)) ∙ take-at xs (drop (0 + length xs) t) n (sym front-size)
+  -- it is short enough for a count
+  pub front-few : n ≤ mostText
+  front-few = omega (arith, front-size, p .few)
+
+  module _ (enough : mostText ≤ length t) where
+    pub front-inside : n ≤ length u
+    front-inside = omega (arith, front-few, put-length (p .put))
+
+    pub front-text : take n u ≡ textOf ws
+    front-text =
+        ap (take n) (p .put .text ∙ sets-eq (textOf ws) t 0 (omega (arith, p .few)))
+        ∙ take-at (textOf ws) (drop (0 + length (textOf ws)) t) n (sym front-size)

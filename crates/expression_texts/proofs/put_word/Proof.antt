@@ -9,9 +9,6 @@ use Rattle.typed.specs.Writing.{spaced}
 use Rattle.expression_texts.proofs.Pieces.{fits-as, put-as}
 use Rattle.expression_texts.proofs.put_word.Statement.{statement}
 use Rattle.expression_texts.proofs.put_word.Tie as tie
-use Rattle.expression_texts.proofs.put_word.Reads as reads
-use Rattle.expression_texts.proofs.put_word.Lts as lts
-use Rattle.puts.proofs.put_text.Reads as put-text-reads
 
 -- the word for a code, after a blank
 abbrev shown : ℕ → List ℕ
@@ -25,7 +22,7 @@ last-code : (k : ℕ) → 4 ≤ k → k < 8 → (k ≡ 4 → ⊥) → (k ≡ 5 �
 last-code k h l p q r = omega arith
 
 abbrev AtLast : Type 0
-AtLast = lts.Else7 (put-text-reads.Asked, put-text-reads.Learnt) reads.Pre reads.Post
+AtLast = tie.Else7
 
 is-last : (c : AtLast) → c .before .before .before .before .before .before .before .before .args .code ≡ 7
 is-last c =

@@ -12,37 +12,19 @@ use Rattle.sheet_texts.specs.Lines.{panelText, waysText, closedText, fro
 use Rattle.sheet_texts.proofs.Bytes.{waysLent, kind-front}
 use Rattle.sheet_texts.proofs.put_kind.Statement.{statement}
 use Rattle.sheet_texts.proofs.put_kind.Tie as tie
-use Rattle.sheet_texts.proofs.put_kind.Reads as reads
-use Rattle.sheet_texts.proofs.put_kind.Lts as lts
-use Rattle.answers.proofs.widths.word_number.Reads as word-number-reads
-use Rattle.puts.proofs.put_text.Reads as put-text-reads
-use Rattle.sheet_texts.proofs.put_panel.Reads as put-panel-reads
-use Rattle.sheet_texts.proofs.put_ways.Reads as put-ways-reads
-
-abbrev calls : lts.Claims
-calls = (
-  word-number-reads.Asked,
-  word-number-reads.Learnt,
-  put-panel-reads.Asked,
-  put-panel-reads.Learnt,
-  put-ways-reads.Asked,
-  put-ways-reads.Learnt,
-  put-text-reads.Asked,
-  put-text-reads.Learnt,
-)
 
 -- where it starts, where the panel, the code and the length are read, and where the panel and the ways are put
 abbrev AtStart : Type 0
-AtStart = lts.Start calls reads.Pre reads.Post
+AtStart = tie.Start
 
 abbrev AtRead : Type 0
-AtRead = lts.After-word-number3 calls reads.Pre reads.Post
+AtRead = tie.After-word-number3
 
 abbrev AtPanel : Type 0
-AtPanel = lts.After-put-panel calls reads.Pre reads.Post
+AtPanel = tie.After-put-panel
 
 abbrev AtWays : Type 0
-AtWays = lts.After-put-ways calls reads.Pre reads.Post
+AtWays = tie.After-put-ways
 
 module _ (c : AtRead) where
   abbrev start : AtStart

@@ -15,37 +15,19 @@ use Rattle.sheet_texts.specs.Lines.{lastText, frontText}
 use Rattle.sheet_texts.proofs.Bytes.{begins, expression-words, relation-front}
 use Rattle.sheet_texts.proofs.put_relation.Statement.{statement}
 use Rattle.sheet_texts.proofs.put_relation.Tie as tie
-use Rattle.sheet_texts.proofs.put_relation.Reads as reads
-use Rattle.sheet_texts.proofs.put_relation.Lts as lts
-use Rattle.answers.proofs.widths.word_number.Reads as word-number-reads
-use Rattle.expression_texts.proofs.put_expression.Reads as put-expression-reads
-use Rattle.puts.proofs.put_number.Reads as put-number-reads
-use Rattle.sheet_texts.proofs.put_last.Reads as put-last-reads
-
-abbrev calls : lts.Claims
-calls = (
-  word-number-reads.Asked,
-  word-number-reads.Learnt,
-  put-number-reads.Asked,
-  put-number-reads.Learnt,
-  put-expression-reads.Asked,
-  put-expression-reads.Learnt,
-  put-last-reads.Asked,
-  put-last-reads.Learnt,
-)
 
 -- where it starts, where the boards are read, and where the first one and the expression are put
 abbrev AtStart : Type 0
-AtStart = lts.Start calls reads.Pre reads.Post
+AtStart = tie.Start
 
 abbrev AtRead : Type 0
-AtRead = lts.After-word-number2 calls reads.Pre reads.Post
+AtRead = tie.After-word-number2
 
 abbrev AtNumber : Type 0
-AtNumber = lts.After-put-number calls reads.Pre reads.Post
+AtNumber = tie.After-put-number
 
 abbrev AtExpression : Type 0
-AtExpression = lts.After-put-expression calls reads.Pre reads.Post
+AtExpression = tie.After-put-expression
 
 module _ (c : AtRead) where
   abbrev start : AtStart

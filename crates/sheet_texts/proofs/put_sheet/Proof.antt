@@ -9,40 +9,23 @@ use Rattle.puts.specs.Texts.{HasRoom}
 use Rattle.puts.proofs.Putting.{put-then, fits-first, fits-rest}
 use Rattle.expression_texts.proofs.Pieces.{fits-as, put-as}
 use Rattle.sheet_texts.proofs.Laid.{words-typable, Laid, good-laid}
+use Rattle.sheet_texts.proofs.Few.{laid-few}
 use Rattle.sheet_texts.proofs.Parts.{firstText, relationsText, kindsText, Parts, laid-parts, laid-room}
 use Rattle.sheet_texts.proofs.put_sheet.Statement.{statement}
 use Rattle.sheet_texts.proofs.put_sheet.Tie as tie
-use Rattle.sheet_texts.proofs.put_sheet.Reads as reads
-use Rattle.sheet_texts.proofs.put_sheet.Lts as lts
-use Rattle.answers.proofs.widths.word_number.Reads as word-number-reads
-use Rattle.sheet_texts.proofs.put_first.Reads as put-first-reads
-use Rattle.sheet_texts.proofs.put_kinds.Reads as put-kinds-reads
-use Rattle.sheet_texts.proofs.put_relations.Reads as put-relations-reads
-
-abbrev calls : lts.Claims
-calls = (
-  word-number-reads.Asked,
-  word-number-reads.Learnt,
-  put-first-reads.Asked,
-  put-first-reads.Learnt,
-  put-relations-reads.Asked,
-  put-relations-reads.Learnt,
-  put-kinds-reads.Asked,
-  put-kinds-reads.Learnt,
-)
 
 -- where the words are known to be small, where the header is read, and where the first line and the relation lines are put
 abbrev AtKnown : Type 0
-AtKnown = lts.After-shared-slice-known calls reads.Pre reads.Post
+AtKnown = tie.After-shared-slice-known
 
 abbrev AtRead : Type 0
-AtRead = lts.After-word-number4 calls reads.Pre reads.Post
+AtRead = tie.After-word-number4
 
 abbrev AtFirst : Type 0
-AtFirst = lts.After-put-first calls reads.Pre reads.Post
+AtFirst = tie.After-put-first
 
 abbrev AtRelated : Type 0
-AtRelated = lts.After-put-relations calls reads.Pre reads.Post
+AtRelated = tie.After-put-relations
 
 -- the description is laid out as it should be
 laid : (c : AtKnown) → Laid (c .before .args .words .now)
@@ -179,9 +162,13 @@ returns : tie.Need-returns
 returns c =
     let related = c .before .before .before .before .before .before .before in
     let read = related-read related in
-    put-as (sym (parts read .text))
-    (put-then (firstText (v read)) (later read) (related-first related .put-first .ensures)
-    (put-then (relations read) (kinds read) (related .put-relations .ensures) (c .before .before .put-kinds .ensures)))
+    record {
+      put =
+          put-as (sym (parts read .text))
+          (put-then (firstText (v read)) (later read) (related-first related .put-first .ensures)
+          (put-then (relations read) (kinds read) (related .put-relations .ensures) (c .before .before .put-kinds .ensures)));
+      few = laid-few (words read) (laid (known read));
+    }
 
 pub put-sheet-spec : {M : Type 1} → statement M
 put-sheet-spec =

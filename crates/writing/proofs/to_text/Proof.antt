@@ -1,22 +1,38 @@
 -- `to_text` meets its contract: the words are read, and the text of a good description goes to the room. Assumes nothing.
 use mathlib.Core.Path.{_≡_, sym, ap, _∙_}
 use mathlib.Core.List.{List}
-use Prim.Native.Nat.{ℕ, _≤_}
+use Prim.Native.Nat.{ℕ}
 use native.Mathlib.Omega.{arith}
+use borrow.Author.Needs.{needs}
 use lib.ListN.{length}
 use Rattle.answers.specs.declared.Answer.{Answer}
 use Rattle.answers.specs.Answers.{outcome}
-use Rattle.rules.specs.Calls.{refuse, succeed, reading}
+use Rattle.rules.specs.Calls.{Outcome, refuse, succeed, reading}
 use Rattle.typed.specs.Writing.{textOf}
 use Rattle.typed.specs.Calls.{inRoom, toText}
-use Rattle.sheet_texts.specs.Sheets.{mostText}
-use Rattle.sheet_texts.proofs.Laid.{words-typable}
-use Rattle.sheet_texts.proofs.Few.{text-few}
 use Rattle.reading.proofs.Handing.{room-fits, given-refused, given-read}
-use Rattle.writing.proofs.Fronts.{reads-good, front-size}
-use borrow.Author.Needs.{needs}
+use Rattle.writing.proofs.Fronts.{reads-good, front-size, front-few}
 use Rattle.writing.proofs.to_text.Statement.{statement}
 use Rattle.writing.proofs.to_text.Tie as tie
+
+-- ---- where the words are read, and are not refused
+
+module _ (c : tie.Else1) where
+  abbrev words : List ℕ
+  words = c .before .before .before .before .before .args .words .now
+
+  abbrev room : List ℕ
+  room = c .before .before .before .before .before .args .room .now
+
+  taken : reading words ≡ 0
+  taken = sym (ap (λ (a : Answer). a .number) (c .before .before .read .ensures)) ∙ c .if1 .left
+
+  -- the text decides
+  written : {o : Outcome (List ℕ)} → o ≡ inRoom (textOf words) room → o ≡ toText words room
+  unfolding toText
+  written p = p ∙ given-read words room (inRoom (textOf words) room) taken
+
+-- ---- what the code leaves
 
 read-requires : tie.Need-read-requires
 read-requires c κs = search needs
@@ -35,42 +51,19 @@ returns c =
     ∙ given-refused words room (λ s. inRoom (textOf words) room) (λ z. c .before .if1 .taken (n ∙ z))
 
 write-apart-requires : tie.Need-write-apart-requires
-write-apart-requires c κs =
-    let start = c .before .before .before .before .before .before .before in
-    let words = start .args .words .now in
-    let room = start .args .room .now in
-    let e : reading words ≡ 0 = sym (ap (λ (a : Answer). a .number) (c .before .before .before .before .read .ensures)) ∙ c .before .before .if1 .left in
-    reads-good words e
+write-apart-requires c κs = reads-good _ (taken (c .before .before))
 
 same-length : tie.Need-same-length
 same-length c = search needs
 
 returns-2 : tie.Need-returns-2
-unfolding toText
-returns-2 c =
-    let start = c .before .before .before .before .before .before .before .before .before .before in
-    let words = start .args .words .now in
-    let room = start .args .room .now in
-    let e : reading words ≡ 0 = sym (ap (λ (a : Answer). a .number) (c .before .before .before .before .before .before .before .read .ensures)) ∙ c .before .before .before .before .before .if1 .left in
-    c .before .before .write-apart .ensures ∙ given-read words room (inRoom (textOf words) room) e
+returns-2 c = written (c .before .before .before .before .before) (c .before .before .write-apart .ensures)
 
 put-sheet-requires : tie.Need-put-sheet-requires
-put-sheet-requires c κs =
-    let start = c .before .before .before .before .before .before .before in
-    let words = start .args .words .now in
-    let room = start .args .room .now in
-    let e : reading words ≡ 0 = sym (ap (λ (a : Answer). a .number) (c .before .before .before .before .read .ensures)) ∙ c .before .before .if1 .left in
-    (reads-good words e, c .before .if2 .left)
+put-sheet-requires c κs = (reads-good _ (taken (c .before .before)), c .before .if2 .left)
 
 cast-succeed : tie.Need-cast-succeed
-cast-succeed c =
-    let start = c .before .before .before .before .before .before .before .before .before .before in
-    let words = start .args .words .now in
-    let room = start .args .room .now in
-    let e : reading words ≡ 0 = sym (ap (λ (a : Answer). a .number) (c .before .before .before .before .before .before .before .read .ensures)) ∙ c .before .before .before .before .before .if1 .left in
-    let good = reads-good words e in
-    let few : length (textOf words) ≤ mostText = text-few words (good .sheet) (words-typable words (λ i. omega (arith, c .before .before .before .before .before .before .before .before .before .shared-slice-known .given i))) (good .reads) in
-    omega (arith, few, c .before .before .put-sheet .ensures .next)
+cast-succeed c = omega (arith, front-few (c .before .before .put-sheet .ensures))
 
 succeed-requires : tie.Need-succeed-requires
 succeed-requires c κs = search needs
@@ -79,19 +72,14 @@ same-length-2 : tie.Need-same-length-2
 same-length-2 c = search needs
 
 returns-3 : tie.Need-returns-3
-unfolding toText
 returns-3 c =
-    let start = c .before .before .before .before .before .before .before .before .before .before .before in
-    let words = start .args .words .now in
-    let room = start .args .room .now in
-    let e : reading words ≡ 0 = sym (ap (λ (a : Answer). a .number) (c .before .before .before .before .before .before .before .before .read .ensures)) ∙ c .before .before .before .before .before .before .if1 .left in
-    let good = reads-good words e in
-    let few : length (textOf words) ≤ mostText = text-few words (good .sheet) (words-typable words (λ i. omega (arith, c .before .before .before .before .before .before .before .before .before .before .shared-slice-known .given i))) (good .reads) in
-    let put = c .before .before .before .put-sheet .ensures in
+    let read = c .before .before .before .before .before .before in
+    let text = textOf (words read) in
+    let sheet = c .before .before .before .put-sheet .ensures in
     let after : List ℕ = c .before .before .before .put-sheet .last .1 .0 in
-    let fits : length (textOf words) ≤ length room = omega (arith, few, c .before .before .before .before .before .if2 .left) in
-    ap (λ (a : Answer). outcome a after) (c .succeed .ensures) ∙ ap (λ (k : ℕ). succeed k after) (front-size put fits) ∙ ap (succeed (length (textOf words))) (put .text)
-    ∙ room-fits (textOf words) room fits ∙ given-read words room (inRoom (textOf words) room) e
+    written read
+    (ap (λ (a : Answer). outcome a after) (c .succeed .ensures) ∙ ap (λ (k : ℕ). succeed k after) (front-size sheet) ∙ ap (succeed (length text)) (sheet .put .text)
+    ∙ room-fits text (room read) (omega (arith, sheet .few, c .before .before .before .before .before .if2 .left)))
 
 pub to-text-spec : {M : Type 1} → statement M
 to-text-spec =

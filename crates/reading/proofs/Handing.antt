@@ -11,6 +11,8 @@ use Rattle.rules.specs.Descriptions.{Sheet, Reading, good, refused, read}
 use Rattle.rules.specs.Calls.{Outcome, refuse, succeed, given, reading}
 use Rattle.rules.proofs.Tests.{clash}
 use Rattle.rules.proofs.Descriptions.{read-numbered}
+use Rattle.answers.specs.declared.Answer.{Answer}
+use Rattle.answers.specs.Answers.{answered}
 use Rattle.typed.specs.Calls.{inRoom}
 
 by-room : List ℕ → List ℕ → Bool → Outcome (List ℕ)
@@ -31,7 +33,7 @@ number-of : Reading Sheet → ℕ
 number-of r = elim r [ good s ↦ 0 | refused n ↦ n ]
 
 -- what is refused
-pub given-refused : {L : Type 0} (ws : List ℕ) (l : L) (f : Sheet → Outcome L) → (reading ws ≡ 0 → ⊥) → refuse (reading ws) 0 l ≡ given (read ws) l f
+given-refused : {L : Type 0} (ws : List ℕ) (l : L) (f : Sheet → Outcome L) → (reading ws ≡ 0 → ⊥) → refuse (reading ws) 0 l ≡ given (read ws) l f
 unfolding reading number-of
 given-refused {L} ws l f h = go (read ws) refl
   where
@@ -50,3 +52,14 @@ read-good {P} ws h f = go (read ws) refl
 
 pub given-read : {L : Type 0} (ws : List ℕ) (l : L) (o : Outcome L) → reading ws ≡ 0 → o ≡ given (read ws) l (λ s. o)
 given-read {L} ws l o h = read-good ws h (λ s e. sym (ap (λ (r : Reading Sheet). given r l (λ s. o)) e))
+
+-- what follows from what the reader answers of the words: a refusal is passed on, or they are taken
+module _ (ws : List ℕ) {a : Answer} (e : a ≡ answered (reading ws) 0) where
+  number-told : a .number ≡ reading ws
+  number-told = ap (λ (x : Answer). x .number) e
+
+  pub passed-on : {L : Type 0} (l : L) (f : Sheet → Outcome L) → (a .number ≡ 0 → ⊥) → refuse (a .number) 0 l ≡ given (read ws) l f
+  passed-on l f h = ap (λ (n : ℕ). refuse n 0 l) number-told ∙ given-refused ws l f (λ z. h (number-told ∙ z))
+
+  pub words-taken : a .number ≡ 0 → reading ws ≡ 0
+  words-taken h = sym number-told ∙ h

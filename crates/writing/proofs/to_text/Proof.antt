@@ -1,5 +1,5 @@
 -- `to_text` meets its contract: the words are read, and the text of a good description goes to the room. Assumes nothing.
-use mathlib.Core.Path.{_≡_, sym, ap, _∙_}
+use mathlib.Core.Path.{_≡_, ap, _∙_}
 use mathlib.Core.List.{List}
 use Prim.Native.Nat.{ℕ}
 use native.Mathlib.Omega.{arith}
@@ -7,10 +7,10 @@ use borrow.Author.Needs.{needs}
 use lib.ListN.{length}
 use Rattle.answers.specs.declared.Answer.{Answer}
 use Rattle.answers.specs.Answers.{outcome}
-use Rattle.rules.specs.Calls.{Outcome, refuse, succeed, reading}
+use Rattle.rules.specs.Calls.{Outcome, succeed, reading}
 use Rattle.typed.specs.Writing.{textOf}
 use Rattle.typed.specs.Calls.{inRoom, toText}
-use Rattle.reading.proofs.Handing.{room-fits, given-refused, given-read}
+use Rattle.reading.proofs.Handing.{room-fits, passed-on, words-taken, given-read}
 use Rattle.writing.proofs.Fronts.{reads-good, front-size, front-few}
 use Rattle.writing.proofs.to_text.Statement.{statement}
 use Rattle.writing.proofs.to_text.Tie as tie
@@ -25,7 +25,7 @@ module _ (c : tie.Else1) where
   room = c .before .before .before .before .before .args .room .now
 
   taken : reading words ≡ 0
-  taken = sym (ap (λ (a : Answer). a .number) (c .before .before .read .ensures)) ∙ c .if1 .left
+  taken = words-taken words (c .before .before .read .ensures) (c .if1 .left)
 
   -- the text decides
   written : {o : Outcome (List ℕ)} → o ≡ inRoom (textOf words) room → o ≡ toText words room
@@ -46,9 +46,8 @@ returns c =
     let start = c .before .before .before .before .before .before in
     let words = start .args .words .now in
     let room = start .args .room .now in
-    let n : c .before .before .before .read .result .number ≡ reading words = ap (λ (a : Answer). a .number) (c .before .before .before .read .ensures) in
-    ap (λ (a : Answer). outcome a room) (c .refuse .ensures) ∙ ap (λ (k : ℕ). refuse k 0 room) n
-    ∙ given-refused words room (λ s. inRoom (textOf words) room) (λ z. c .before .if1 .taken (n ∙ z))
+    ap (λ (a : Answer). outcome a room) (c .refuse .ensures)
+    ∙ passed-on words (c .before .before .before .read .ensures) room (λ s. inRoom (textOf words) room) (c .before .if1 .taken)
 
 write-apart-requires : tie.Need-write-apart-requires
 write-apart-requires c κs = reads-good _ (taken (c .before .before))

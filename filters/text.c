@@ -1,8 +1,6 @@
 /* Reads the words of a description, little-endian, from standard input and writes its typed sheet to standard output. A description that is refused is told on
  * standard error, and nothing is written; so is an odd number of bytes, as 'input'. Exit status: 0 written; 1 refused; 2 the input could not be read or the
  * answer not be written. */
-#include <stdlib.h>
-
 #include "filter.h"
 #include "talungbisay.h"
 
@@ -12,10 +10,9 @@ int main(void)
     struct bytes input = read_input("text");
     if (input.n % 2 != 0)
         return tell_input();
+    /* each word takes the place of its two bytes */
     size_t n = input.n / 2;
-    uint16_t *words = malloc(input.n + sizeof *words);
-    if (words == NULL)
-        return tell_input();
+    uint16_t *words = (void *)input.at;
     for (size_t i = 0; i < n; i++)
         words[i] = (uint16_t)(input.at[2 * i] + 256 * input.at[2 * i + 1]);
     uint64_t answer = talung_to_text(words, n, text, TALUNG_MOST_TEXT);

@@ -1,6 +1,6 @@
 #!/bin/sh
-# Runs the filters ./words and ./text, built by 'make lib', over the sheets of examples/ and over sheets that are refused, very long or very deep: what they write, what
-# they say on standard error, and their exit status.
+# Builds the filters ./words and ./text from the library of 'make lib', and runs them over the sheets of examples/ and over sheets that are refused, very long or
+# very deep: what they write, what they say on standard error, and their exit status.
 # Exit status: 0 all as expected; 1 something differs; 2 a program could not be built.
 set -u
 cd "$(dirname "$0")/.." || exit 2

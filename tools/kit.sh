@@ -20,6 +20,9 @@ under='' # a command that watches the programs that are run, with its words
 export RT_JOBS
 
 alone() { # COMMAND...: while nothing else is built here, since two builds at once would write the same files; the later one waits
+    if ! command -v flock >/dev/null 2>&1; then
+        { apt-get update && apt-get install -y util-linux; } >&2
+    fi
     (flock 9 && "$@") 9<.
 }
 

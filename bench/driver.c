@@ -8,7 +8,7 @@ enum {
     GROUPS = CLOSED_GROUPS + SEARCHED_GROUPS + TEXT_GROUPS,
     TURNS = 5,
     LEAST_TURN_NS = 2000000,
-    BATCH = 48
+    BATCH = 56
 };
 
 static struct group groups[GROUPS];

@@ -180,6 +180,22 @@ static int read_kind_lines(size_t v, size_t count, const uint16_t *words, size_t
     return at < n ? TALUNG_UNFIT : 0;
 }
 
+/* Whether one of these kind lines, which have been read, has the code of an earlier one and another number of ways. */
+static int kind_lines_disagree(size_t count, const uint16_t *words)
+{
+    const uint16_t *at = words;
+    for (size_t i = 0; i < count; i++) {
+        const uint16_t *before = words;
+        for (size_t j = 0; j < i; j++) {
+            if (before[1] == at[1] && before[2] != at[2])
+                return 1;
+            before += HEAD_WORDS + before[2];
+        }
+        at += HEAD_WORDS + at[2];
+    }
+    return 0;
+}
+
 /* Reads a whole description. Answers 0 or the first refusal. Each of its two callers has it in its own code, so that a closing reads without a call. */
 static inline __attribute__((always_inline)) int read_whole(const uint16_t *words, size_t n, struct header *h)
 {
@@ -189,7 +205,10 @@ static inline __attribute__((always_inline)) int read_whole(const uint16_t *word
     refusal = read_relation_lines(h->boards, h->lines, words + HEADER_WORDS, h->kinds_at - HEADER_WORDS);
     if (refusal)
         return refusal;
-    return read_kind_lines(h->boards, h->kinds, words + h->kinds_at, n - h->kinds_at);
+    refusal = read_kind_lines(h->boards, h->kinds, words + h->kinds_at, n - h->kinds_at);
+    if (refusal)
+        return refusal;
+    return kind_lines_disagree(h->kinds, words + h->kinds_at) ? TALUNG_DISAGREES : 0;
 }
 
 /* Narrows one cell to what the bound has too. Answers how many relations that struck. */
@@ -307,7 +326,7 @@ static int rule7(size_t v, const struct kind_line *line, const struct kind_line 
     uint8_t *cell = &cells[v * line->p + other->p];
     if (!(*cell & E))
         return 0;
-    if (line->code != other->code || line->count != other->count || !ways_match(v, line, other, cells))
+    if (line->code != other->code || !ways_match(v, line, other, cells))
         return narrow(cell, NOT_SAME);
     if (*cell != E)
         return 0;
@@ -335,8 +354,9 @@ static int rules7(size_t v, size_t count, const uint16_t *words, uint8_t *cells)
     return struck;
 }
 
-/* Each three boards: the first to the third is what the second allows. Answers the number struck, or -1 at once when a cell is empty. */
-static int rules3(size_t v, uint8_t *cells)
+/* Each three boards: the first to the third is what the second allows. Answers the number struck, or -1 at once when a cell is empty. A call of its own, so that
+   its loop is compiled alike whatever stands beside it. */
+static __attribute__((noinline)) int rules3(size_t v, uint8_t *cells)
 {
     int struck = 0;
     for (size_t p = 0; p < v; p++) {

@@ -246,6 +246,13 @@ static void spoil_table(struct sheet *s, size_t way)
     }
 }
 
+/* A kind line more, with the code of the last one and another number of ways. */
+static void spoil_kinds(struct sheet *s, size_t way, const uint16_t *last_kind)
+{
+    static const uint16_t ways[MOST_WAYS];
+    add_kind_line(s, below(16), last_kind[1], ways, (last_kind[2] + 1 + way) % (MOST_WAYS + 1));
+}
+
 /* The last one of some lines that begin at this word. */
 static uint16_t *last_line(struct sheet *s, size_t at, size_t count)
 {
@@ -254,7 +261,7 @@ static uint16_t *last_line(struct sheet *s, size_t at, size_t count)
     return s->words + at;
 }
 
-/* A good sheet that is then spoilt. There are 48 kinds: eight ways for each refusal from 1 to 6. */
+/* A good sheet that is then spoilt. There are 56 kinds: eight ways for each refusal from 1 to 6, and for 11. */
 static void make_refused(struct sheet *s, size_t kind)
 {
     struct site site;
@@ -274,7 +281,11 @@ static void make_refused(struct sheet *s, size_t kind)
     case 3: spoil_lengths(s, way, last, last_kind); break;
     case 4: spoil_boards(s, way, last, last_kind); break;
     case 5: spoil_expression(way % 4, way < 4 ? first : last); break;
-    default: spoil_table(s, way); break;
+    case 6: spoil_table(s, way); break;
+    default:
+        spoil_kinds(s, way, last_kind);
+        s->number = TALUNG_DISAGREES;
+        break;
     }
 }
 
@@ -311,5 +322,5 @@ void make_closed_groups(struct group groups[CLOSED_GROUPS])
     fill(&groups[4], "same panels", 40, make_same_panels);
     fill(&groups[5], "small", 40, make_small);
     fill_kinds(&groups[6], "contradictory", 40, 8, make_contradictory);
-    fill_kinds(&groups[7], "refused", 48, 48, make_refused);
+    fill_kinds(&groups[7], "refused", 56, 56, make_refused);
 }

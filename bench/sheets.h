@@ -7,7 +7,7 @@
 enum {
     MOST_TABLE = 320,
     MOST_ROOM = 16832,
-    MOST_SHEETS = 48,
+    MOST_SHEETS = 56,
     FULL_SHEETS = 8,
     MEGABYTE = 1000000,
     BUDGET = 10000,

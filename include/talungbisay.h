@@ -48,7 +48,8 @@ enum {
  *
  * Relation line: p, q, a length from 1 to 15, and an expression of that many words. What p is to q must be among what the expression allows.
  * Kind line: p, a kind code, a number of ways from 0 to 8, and that many boards in order. Panel p feeds exactly these, on separate feeders, and all else that
- * is below it is below them. Two panels that are one board have one code, and the same boards in the same places.
+ * is below it is below them. Any word is a code; one code means one number of ways. Two panels that are one board have one code, and the same boards in the
+ * same places.
  *
  * An expression is written with each operator before its operands: 'at or above' is TALUNG_EITHER, TALUNG_IS_SAME, TALUNG_IS_ABOVE. */
 enum {
@@ -62,7 +63,7 @@ enum {
     TALUNG_INVERSE = 7 /* the expression that follows, of q to p */
 };
 
-/* What a call answers. The first refusal that applies is given, in the order 1, 2, then the first faulty line (3, 4 and 5 within it), 6, then the rest. */
+/* What a call answers. The first refusal that applies is given, in the order 1, 2, then the first faulty line (3, 4 and 5 within it), 11, 6, then the rest. */
 enum {
     TALUNG_OK = 0,
     TALUNG_OUT_OF_RANGE = 1,   /* fewer than 6 words; or the number of boards, relation lines or kind lines is out of range */
@@ -75,6 +76,7 @@ enum {
     TALUNG_NOWHERE = 8,        /* search: no tree fits; the count is of the tries made */
     TALUNG_RAN_OUT = 9,        /* search: more tries are needed than the budget; the count is the budget */
     TALUNG_NO_ARRANGEMENT = 10, /* check: the table is no tree that fits */
+    TALUNG_DISAGREES = 11,     /* a kind line has the code of an earlier one and another number of ways; it comes after 5 and before 6 */
     TALUNG_NO_ROOM = 19,       /* text: the lent room is too small */
     TALUNG_NO_SHEET = 20       /* text: a line is malformed; the count is its number, from 1, or 4294967295 where that is smaller */
 };
@@ -92,7 +94,7 @@ static inline uint32_t talung_count(uint64_t answer)
 
 /* A table has V times V cells, a byte each; what p may be to q stands at V times p plus q. */
 
-/* Reads a description of n words. Answers TALUNG_OK if it is good, else a refusal from 1 to 5. */
+/* Reads a description of n words. Answers TALUNG_OK if it is good, else a refusal from 1 to 5 or TALUNG_DISAGREES. */
 uint64_t talung_read(const uint16_t *words, size_t n);
 
 /* Makes the table one of v boards of which nothing is known yet: each cell is TALUNG_ANY. Answers TALUNG_OK; or TALUNG_OUT_OF_RANGE where v is not 1 to 16,
@@ -100,16 +102,17 @@ uint64_t talung_read(const uint16_t *words, size_t n);
 uint64_t talung_fresh(uint32_t v, uint8_t *table, size_t cells);
 
 /* Strikes from the table what the rules exclude under the description: leaves the largest table inside it in which no rule strikes anything, and loses no
- * tree that fits. Answers TALUNG_OK, and counts the relations struck, 0 to 768; or a refusal from 1 to 7. */
+ * tree that fits. Answers TALUNG_OK, and counts the relations struck, 0 to 768; or a refusal from 1 to 5, TALUNG_DISAGREES, TALUNG_NO_TABLE or
+ * TALUNG_CONTRADICTORY. */
 uint64_t talung_close(const uint16_t *words, size_t n, uint8_t *table, size_t cells);
 
 /* Looks for a tree inside the table that fits the description, with at most as many tries as the budget, which is any number. Leaves the first one in the order
  * of its cells (p, q) with p < q, same before above before below before side: each cell is then a single relation. Answers TALUNG_OK, and counts the
- * tries made; or a refusal from 1 to 6, TALUNG_NOWHERE or TALUNG_RAN_OUT. */
+ * tries made; or a refusal from 1 to 5, TALUNG_DISAGREES, TALUNG_NO_TABLE, TALUNG_NOWHERE or TALUNG_RAN_OUT. */
 uint64_t talung_search(const uint16_t *words, size_t n, uint8_t *table, size_t cells, uint32_t budget);
 
-/* Says whether the table is a tree that fits the description, whoever proposed it, and only reads it. Answers TALUNG_OK if it is; else a refusal from 1 to 6, or
- * TALUNG_NO_ARRANGEMENT. */
+/* Says whether the table is a tree that fits the description, whoever proposed it, and only reads it. Answers TALUNG_OK if it is; else a refusal from 1 to 5,
+ * TALUNG_DISAGREES, TALUNG_NO_TABLE or TALUNG_NO_ARRANGEMENT. */
 uint64_t talung_check(const uint16_t *words, size_t n, const uint8_t *table, size_t cells);
 
 /* A sheet is a description as people type it; docs/SHEETS.md shows how:
@@ -128,8 +131,8 @@ uint64_t talung_check(const uint16_t *words, size_t n, const uint8_t *table, siz
 uint64_t talung_from_text(const char *text, size_t bytes, uint16_t *words, size_t room);
 
 /* Writes a description as a sheet, with only the parentheses that are needed. It goes to the front of the text, without a zero byte at its end, and the answer counts
- * its bytes; room for TALUNG_MOST_TEXT is always enough. Answers TALUNG_OK; or a refusal from 1 to 5, then TALUNG_NO_ROOM. Room past the sheet stays as it
- * came. Reading it back gives the same description. */
+ * its bytes; room for TALUNG_MOST_TEXT is always enough. Answers TALUNG_OK; or a refusal from 1 to 5, then TALUNG_DISAGREES, then
+ * TALUNG_NO_ROOM. Room past the sheet stays as it came. Reading it back gives the same description. */
 uint64_t talung_to_text(const uint16_t *words, size_t n, char *text, size_t room);
 
 #ifdef __cplusplus

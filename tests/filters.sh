@@ -32,7 +32,7 @@ count=$((count + 1))
 : >"$room/err"
 for sheet in examples/*.sheet; do
     name=${sheet%.sheet}
-    [ "$name" = examples/numbered_from_one ] && continue
+    case $name in examples/numbered_from_one | examples/one_code_two_sizes) continue ;; esac
     cp "$sheet" "$room/in"
     cp "$name.words" "$room/out"
     expect words 0 "$sheet"
@@ -77,9 +77,15 @@ refused 'boards 2\r\n' 'refused 20 line 1'
 refused 'boards 17\n' 'refused 1'
 refused 'boards 2\n0 above 2\n' 'refused 4'
 refused 'boards 2\n0 : 1 ( 1 1 1 1 1 1 1 1 1 )\n' 'refused 3'
+refused 'boards 2\n0 : 7 ( 1 )\n0 above 1\n1 : 7 ( 0 0 )\n' 'refused 11'
+refused 'boards 2\n0 : 7 ( 1 )\n1 : 7 ( 0 0 )\n0 : 8 ( 2 )\n' 'refused 4'
+refused 'boards 2\n0 : 7 ( 1 )\n1 : 7 ( 0 0 )\n0 : 8 ( 1\n' 'refused 20 line 4'
 cp examples/numbered_from_one.sheet "$room/in"
 echo 'refused 4' >"$room/err"
 expect words 1 examples/numbered_from_one.sheet
+cp examples/one_code_two_sizes.sheet "$room/in"
+echo 'refused 11' >"$room/err"
+expect words 1 examples/one_code_two_sizes.sheet
 {
     printf 'boards 2\n0 '
     yes not | head -n 100000 | tr '\n' ' '
@@ -97,6 +103,9 @@ expect words 1 "line 70,002"
 cp examples/numbered_from_one.words "$room/in"
 echo 'refused 4' >"$room/err"
 expect text 1 examples/numbered_from_one.words
+cp examples/one_code_two_sizes.words "$room/in"
+echo 'refused 11' >"$room/err"
+expect text 1 examples/one_code_two_sizes.words
 printf 'abc' >"$room/in"
 echo 'input' >"$room/err"
 expect text 1 "three bytes"

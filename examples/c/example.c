@@ -1,4 +1,4 @@
-/* Describes four sites in code, has them closed, searched and checked, and says what comes of it; writes one of them as a sheet, and reads sheets. To be linked
+/* Describes five sites in code, has them closed, searched and checked, and says what comes of it; writes one of them as a sheet, and reads sheets. To be linked
  * with libtalung.a. */
 #include <assert.h>
 #include <stdio.h>
@@ -54,6 +54,15 @@ static const uint16_t slip_words[] = {
 };
 static const struct site slip = {"A slip of the pen", pair_names, 2, slip_words, sizeof slip_words / sizeof *slip_words};
 
+/* One kind code means one number of ways: of code 7 there is no panel with one way where another has two. */
+static const char *const parts_names[] = {"main", "kitchen", "workshop", "annex", "pump"};
+static const uint16_t parts_words[] = {
+    5, 0, 2, 6, 6, 15,
+    0, 7, 2, 1, 2,
+    3, 7, 1, 4,
+};
+static const struct site parts = {"Two panels of one code, with two ways and with one", parts_names, 5, parts_words, sizeof parts_words / sizeof *parts_words};
+
 static const char *meaning(uint64_t answer)
 {
     switch (talung_number(answer)) {
@@ -67,6 +76,7 @@ static const char *meaning(uint64_t answer)
     case TALUNG_NOWHERE: return "no tree fits";
     case TALUNG_RAN_OUT: return "the budget of tries ran out";
     case TALUNG_NO_ARRANGEMENT: return "this is no tree that fits";
+    case TALUNG_DISAGREES: return "a panel has another number of ways than an earlier one of its code";
     case TALUNG_NO_ROOM: return "the room is too small";
     case TALUNG_NO_SHEET: return "a line is malformed";
     default: return "good";
@@ -174,6 +184,7 @@ int main(void)
     propose_beside(&panel, table, 3, 4);
     solve(&crowded, table);
     solve(&slip, table);
+    solve(&parts, table);
     type(&panel);
     read_sheet("'same or above'", at_or_above, sizeof at_or_above - 1);
     read_sheet("'at or above'", slip_of_the_key, sizeof slip_of_the_key - 1);

@@ -24,7 +24,7 @@ fn refusal(number: u32) -> Answer {
     Answer { number, count: 0 }
 }
 
-/// Reads a description: 0, or 1 to 5.
+/// Reads a description: 0, or 1 to 5, then 11.
 pub fn read(words: &[u16]) -> Answer {
     match description::read(words) {
         Ok(_) => success(0),
@@ -44,7 +44,7 @@ pub fn fresh(v: u32, cells: &mut [u8]) -> Answer {
     success(0)
 }
 
-/// The description and the lent table, or the first refusal among 1 to 6.
+/// The description and the lent table, or the first refusal: 1 to 5, then 11, then 6.
 fn read_both(words: &[u16], cells: &[u8]) -> Result<(Description, Table), u32> {
     let description = description::read(words)?;
     let table = Table::lent(description.boards, cells)?;
@@ -94,7 +94,7 @@ pub fn check(words: &[u16], cells: &[u8]) -> Answer {
 }
 
 /// The words that a text makes: 20 with the number of the first malformed line (the largest count if it
-/// does not fit), then 1 to 5.
+/// does not fit), then 1 to 5, then 11.
 pub fn words_of_text(text: &[u8]) -> Result<Vec<u16>, Answer> {
     let draft = match typed::read(text) {
         Ok(draft) => typed::cut(draft),
@@ -107,7 +107,7 @@ pub fn words_of_text(text: &[u8]) -> Result<Vec<u16>, Answer> {
     }
 }
 
-/// The text of a description, or 1 to 5.
+/// The text of a description, or 1 to 5, then 11.
 pub fn text_of_words(words: &[u16]) -> Result<Vec<u8>, Answer> {
     match description::read(words) {
         Ok(_) => Ok(typed::written(&Draft::of_words(words))),
@@ -115,12 +115,12 @@ pub fn text_of_words(words: &[u16]) -> Result<Vec<u8>, Answer> {
     }
 }
 
-/// Puts the words of a text at the front of the lent room and counts them; 20, 1 to 5, then 19.
+/// Puts the words of a text at the front of the lent room and counts them; 20, 1 to 5, 11, then 19.
 pub fn read_text(text: &[u8], room: &mut [u16]) -> Answer {
     put(words_of_text(text), room)
 }
 
-/// Puts the text of a description at the front of the lent room and counts its bytes; 1 to 5, then 19.
+/// Puts the text of a description at the front of the lent room and counts its bytes; 1 to 5, 11, then 19.
 pub fn write_text(words: &[u16], room: &mut [u8]) -> Answer {
     put(text_of_words(words), room)
 }

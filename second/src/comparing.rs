@@ -12,7 +12,7 @@ use std::process::{Command, Stdio};
 const BATCH: usize = 1_000;
 
 /// The numbers that have a column each in a tally; one more column is for `input`.
-const NUMBERS: [usize; 13] = [0, 1, 2, 3, 4, 5, 6, 7, 8, 9, 10, 19, 20];
+const NUMBERS: [u32; 14] = [0, 1, 2, 3, 4, 5, 6, 7, 8, 9, 10, 11, 19, 20];
 
 /// How often each call gave each number (the last column: input), and what else was met.
 #[derive(Default)]
@@ -35,7 +35,7 @@ impl Tally {
     pub fn count(&mut self, case: &Case, answered: &Answered) {
         self.cases += 1;
         let number =
-            if case.call == Call::Site { number_printed(&answered.printed) } else { answered.answer.number as usize };
+            if case.call == Call::Site { number_printed(&answered.printed) } else { Some(answered.answer.number) };
         self.numbers[case.call as usize][column(number)] += 1;
         if case.call == Call::Search && answered.answer.count > 0 {
             self.found_after_tries += (answered.answer.number == 0) as usize;
@@ -104,22 +104,16 @@ impl Tally {
     }
 }
 
-/// The column of a number; the last is for all that have none of their own.
-fn column(number: usize) -> usize {
-    NUMBERS.iter().position(|&known| known == number).unwrap_or(NUMBERS.len())
+/// The column of a number; the last is for all that have none of their own, and for no number.
+fn column(number: Option<u32>) -> usize {
+    NUMBERS.iter().position(|&known| Some(known) == number).unwrap_or(NUMBERS.len())
 }
 
-/// The number that the program printed: 0, a refusal, or 11 for `input`.
-fn number_printed(printed: &str) -> usize {
+/// The number that the program printed: 0 or a refusal; none for `input`.
+fn number_printed(printed: &str) -> Option<u32> {
     match printed.strip_prefix("refused ") {
-        Some(number) => number.trim().parse().unwrap_or(11),
-        None => {
-            if printed.starts_with("boards") {
-                0
-            } else {
-                11
-            }
-        }
+        Some(number) => number.trim().parse().ok(),
+        None => printed.starts_with("boards").then_some(0),
     }
 }
 

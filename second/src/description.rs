@@ -1,4 +1,4 @@
-//! The reader: a run of words becomes a description, or is refused with 1 to 5.
+//! The reader: a run of words becomes a description, or is refused with 1 to 5, then 11.
 
 use crate::relations::{converse, ALL, SINGLES};
 
@@ -33,7 +33,7 @@ pub struct Description {
 /// What was read from the front of some words, and the words left; or the refusal number.
 type Taken<'a, T> = Result<(T, &'a [u16]), u32>;
 
-/// Reads a description; the error is the refusal number, 1 to 5.
+/// Reads a description; the error is the refusal number: 1 to 5, then 11.
 pub fn read(words: &[u16]) -> Result<Description, u32> {
     check_ranges(words)?;
     check_offsets(words)?;
@@ -43,6 +43,7 @@ pub fn read(words: &[u16]) -> Result<Description, u32> {
     check_nothing_left(left)?;
     let (kind_lines, left) = read_lines(&words[kind_offset..], words[2], boards, read_kind_line)?;
     check_nothing_left(left)?;
+    check_numbers_of_ways(&kind_lines)?;
     Ok(Description { boards: boards as usize, relation_lines, kind_lines })
 }
 
@@ -78,6 +79,17 @@ fn check_nothing_left(left: &[u16]) -> Result<(), u32> {
     } else {
         Err(3)
     }
+}
+
+/// Refusal 11: a kind line disagrees with an earlier one, being of its code but of another number of ways.
+fn check_numbers_of_ways(lines: &[KindLine]) -> Result<(), u32> {
+    for (at, line) in lines.iter().enumerate() {
+        let disagrees = |earlier: &KindLine| earlier.code == line.code && earlier.ways.len() != line.ways.len();
+        if lines[..at].iter().any(disagrees) {
+            return Err(11);
+        }
+    }
+    Ok(())
 }
 
 /// Reads that many lines from the front of a section; gives them and the words left.

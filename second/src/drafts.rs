@@ -3,6 +3,7 @@
 use crate::chance::Chance;
 use crate::description::{meaning, HEADER};
 use crate::relations::{converse, SINGLES};
+use std::collections::HashMap;
 
 /// A relation line to be: p, q and the words of its expression.
 #[derive(Clone)]
@@ -101,6 +102,19 @@ impl Draft {
             line.ways = line.ways.iter().map(|&way| name(way)).collect();
         }
         draft
+    }
+
+    /// Changes codes so that no kind lines disagree: a line that disagrees with an earlier one takes the next code,
+    /// by 1 or 256 more or by 1 less, with which it does not. Lines of one code and as many ways still share a code.
+    pub fn mend_codes(&mut self) {
+        let step = [1, 256, u16::MAX][self.boards % 3];
+        let mut ways_of = HashMap::new();
+        for line in &mut self.kinds {
+            let ways = line.ways.len();
+            while *ways_of.entry(line.code).or_insert(ways) != ways {
+                line.code = line.code.wrapping_add(step);
+            }
+        }
     }
 
     /// Turns some relation lines round: (q, p) with the converse set.

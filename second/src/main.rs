@@ -13,6 +13,7 @@ mod infix;
 mod inputs;
 mod making;
 mod named;
+mod named_kinds;
 mod named_texts;
 mod printing;
 mod relations;

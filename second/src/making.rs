@@ -7,7 +7,7 @@ use crate::forest::Forest;
 use crate::printing::{BUDGET, MOST_BYTES};
 use crate::relations::{converse, ALL, SINGLES};
 use crate::sheets::{any_sheet, behind_loose_boards, few_boards, hard_sheet, Sheet};
-use crate::spoiling::{spoilt, words_by_chance};
+use crate::spoiling::mostly_refused;
 use crate::texts::text_cases;
 
 /// The part of texts in a mix of all calls, in hundredths.
@@ -64,21 +64,21 @@ fn all_cases(chance: &mut Chance) -> Vec<Case> {
 
 /// One case or several that belong together; at times none, if a search would take long.
 fn table_cases(chance: &mut Chance) -> Vec<Case> {
-    match chance.below(100) {
-        0..=9 => refused_cases(chance),
-        10..=13 => vec![Case::read(&any_sheet(chance).draft.words())],
-        14..=17 => vec![fresh_case(chance)],
-        18..=44 => vec![close_case(chance)],
-        45..=69 => search_cases(chance),
-        70..=88 => vec![check_case(chance)],
+    match chance.below(103) {
+        0..=12 => refused_cases(chance),
+        13..=16 => vec![Case::read(&any_sheet(chance).draft.words())],
+        17..=20 => vec![fresh_case(chance)],
+        21..=47 => vec![close_case(chance)],
+        48..=72 => search_cases(chance),
+        73..=91 => vec![check_case(chance)],
         _ => site_cases(chance),
     }
 }
 
-/// A description that is refused, at times several calls of it.
+/// A description that is mostly refused, at times several calls of it.
 fn refused_cases(chance: &mut Chance) -> Vec<Case> {
     let sheet = any_sheet(chance);
-    let words = if chance.percent(85) { spoilt(chance, &sheet.draft) } else { words_by_chance(chance) };
+    let words = mostly_refused(chance, &sheet.draft);
     let boards = if chance.percent(50) { sheet.draft.boards } else { words.first().map_or(0, |&v| v.min(17) as usize) };
     let cells = any_table(chance, &sheet, boards);
     let budget = chance.below(200) as u32;
@@ -206,7 +206,7 @@ fn change_a_pair(chance: &mut Chance, boards: usize, cells: &mut [u8]) {
     cells[boards * q + p] = converse(relation);
 }
 
-/// Takes a line away or changes one a little.
+/// Takes a line away or changes one a little; mostly no lines disagree afterwards.
 fn change_a_line(chance: &mut Chance, sheet: &mut Sheet) {
     let draft = &mut sheet.draft;
     let (line, kind) = (chance.below(draft.relations.len()), chance.below(draft.kinds.len()));
@@ -220,6 +220,9 @@ fn change_a_line(chance: &mut Chance, sheet: &mut Sheet) {
         5 if !draft.kinds.is_empty() => draft.kinds[kind].ways.reverse(),
         _ if !draft.kinds.is_empty() && draft.kinds[kind].ways.len() < 8 => draft.kinds[kind].ways.push(board),
         _ => {}
+    }
+    if chance.percent(90) {
+        draft.mend_codes();
     }
 }
 
@@ -299,10 +302,9 @@ fn malformed(chance: &mut Chance, mut cells: Vec<u8>) -> Vec<u8> {
 /// An input of the program: mostly a good description; at times odd, refused or too long.
 fn site_cases(chance: &mut Chance) -> Vec<Case> {
     let sheet = any_sheet(chance);
-    let words = match chance.below(20) {
-        0..=2 => spoilt(chance, &sheet.draft),
-        3 => words_by_chance(chance),
-        4 if chance.percent(10) => behind_loose_boards(chance.pick(&[3, 4])).words(),
+    let words = match chance.below(21) {
+        0..=4 => mostly_refused(chance, &sheet.draft),
+        5 if chance.percent(10) => behind_loose_boards(chance.pick(&[3, 4])).words(),
         _ => sheet.draft.words(),
     };
     let mut bytes = little_endian_bytes(&words);

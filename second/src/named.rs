@@ -1,11 +1,12 @@
 //! Descriptions with names: those to try, those at the limits, and those refused.
 
 use crate::drafts::Draft;
+use crate::named_kinds::{agreeing_kinds, refused_kinds};
 use crate::sheets::{behind_loose_boards, core_with, core_without};
 
 /// All good descriptions with names.
 pub fn good_drafts() -> Vec<(&'static str, Draft)> {
-    [sites_to_try(), kinds_of_note(), lines_of_note(), limits()].concat()
+    [sites_to_try(), kinds_of_note(), agreeing_kinds(), lines_of_note(), limits()].concat()
 }
 
 /// The sites that the rules name.
@@ -44,7 +45,6 @@ fn kinds_of_note() -> Vec<(&'static str, Draft)> {
         ("kind-zero-and-65535", Draft::of(2).kind(0, 0, &[]).kind(1, 65_535, &[])),
         ("kind-differs-in-high-byte", Draft::of(2).line(0, 1, &[0]).kind(0, 5, &[]).kind(1, 261, &[])),
         ("one-board-two-kinds", Draft::of(2).kind(0, 5, &[]).kind(0, 6, &[])),
-        ("one-board-two-numbers-of-ways", Draft::of(3).kind(0, 5, &[1]).kind(0, 5, &[1, 2])),
         ("one-board-same-line-twice", Draft::of(3).kind(0, 5, &[1, 2]).kind(0, 5, &[1, 2])),
         ("one-board-ways-exchanged", Draft::of(3).kind(0, 5, &[1, 2]).kind(0, 5, &[2, 1])),
         ("one-board-two-names-of-a-way", Draft::of(3).kind(0, 5, &[1]).kind(0, 5, &[2])),
@@ -143,7 +143,8 @@ pub fn longest() -> Draft {
 
 /// All refused runs of words with names.
 pub fn refused_runs() -> Vec<(&'static str, Vec<u16>)> {
-    [refused_headers(), refused_lines(), refused_orders()].concat()
+    let kinds = refused_kinds().into_iter().map(|(name, words, _)| (name, words)).collect();
+    [refused_headers(), refused_lines(), refused_orders(), kinds].concat()
 }
 
 /// Refusals 1 and 2.

@@ -109,6 +109,7 @@ fn needless_parentheses() -> Vec<Expression> {
 pub fn good_texts() -> Vec<(&'static str, String, Draft)> {
     let mut texts = good_blanks();
     texts.extend(good_lines());
+    texts.extend(agreeing_lines());
     texts.extend(text_limits());
     texts
 }
@@ -117,7 +118,7 @@ pub fn good_texts() -> Vec<(&'static str, String, Draft)> {
 fn good_blanks() -> Vec<(&'static str, String, Draft)> {
     let apart = " ".repeat(70);
     let far_apart = format!("{apart}boards{apart}2{apart}\n{apart}0{apart}side{apart}1{apart}\n");
-    let blanks = "  boards   4  \n   0    not   (  same  or  above  )   3  \n 0  :  5  (  1  2  ) \n  2:5(1)  ";
+    let blanks = "  boards   4  \n   0    not   (  same  or  above  )   3  \n 0  :  5  (  1  2  ) \n  2:6(1)  ";
     let not_same = Draft::of(2).line(0, 1, &[6, 0]);
     let way = Draft::of(2).kind(0, 7, &[1]);
     let named = [
@@ -126,7 +127,7 @@ fn good_blanks() -> Vec<(&'static str, String, Draft)> {
         ("relation-line-without-line-feed", "boards 2\n0 above 1", Draft::of(2).line(0, 1, &[1])),
         ("kind-line-without-line-feed", "boards 2\n0 : 7 ( 1 )", way.clone()),
         ("blank-after-last-parenthesis", "boards 2\n0 : 7 ( 1 ) ", way.clone()),
-        ("blanks-everywhere", blanks, Draft::of(4).line(0, 3, &[6, 4, 0, 1]).kind(0, 5, &[1, 2]).kind(2, 5, &[1])),
+        ("blanks-everywhere", blanks, Draft::of(4).line(0, 3, &[6, 4, 0, 1]).kind(0, 5, &[1, 2]).kind(2, 6, &[1])),
         ("parentheses-without-blanks", "boards 2\n0 not(same)1\n", not_same.clone()),
         ("all-in-parentheses", "boards 2\n0(not(same))1\n", not_same),
         ("operators-between-parentheses", "boards 2\n0(same)or(above)1\n", Draft::of(2).line(0, 1, &[4, 0, 1])),
@@ -154,6 +155,25 @@ fn good_lines() -> Vec<(&'static str, String, Draft)> {
         ("boards-16", "boards 16\n15 below 10\n9 : 9 ( 15 )\n", Draft::of(16).line(15, 10, &[2]).kind(9, 9, &[15])),
     ];
     named.into_iter().map(|(name, text, draft)| (name, text.to_string(), draft)).collect()
+}
+
+/// Kind lines that nearly disagree.
+fn agreeing_lines() -> Vec<(&'static str, String, Draft)> {
+    let two = |first: u16, second: u16| {
+        let text = format!("boards 3\n0 : {first} ( 1 )\n1 : {second} ( 1 2 )\n");
+        (text, Draft::of(3).kind(0, first, &[1]).kind(1, second, &[1, 2]))
+    };
+    let apart = Draft::of(4).line(0, 3, &[1]).kind(0, 5, &[1]).kind(2, 5, &[3]);
+    let twice = (0..16).fold(Draft::of(1), |draft, _| draft.kind(0, 5, &[0, 0]));
+    let named = [
+        ("kinds-5-and-6-one-and-two-ways", two(5, 6)),
+        ("kinds-7-and-263-one-and-two-ways", two(7, 263)),
+        ("kinds-0-and-256-one-and-two-ways", two(0, 256)),
+        ("kinds-65535-and-255-one-and-two-ways", two(65_535, 255)),
+        ("one-kind-around-a-relation-line", ("boards 4\n0:5(1)\n0 above 3\n2:5(3)\n".to_string(), apart)),
+        ("one-kind-of-two-ways-16-times", (format!("boards 1\n{}", "0:5(0 0)\n".repeat(16)), twice)),
+    ];
+    named.into_iter().map(|(name, (text, draft))| (name, text, draft)).collect()
 }
 
 /// Texts at the limits of what is taken.
@@ -186,7 +206,9 @@ pub type Refused = (&'static str, String, u32, u32);
 
 /// All texts that are refused, but for those that only have a malformed line.
 pub fn refused_texts() -> Vec<Refused> {
-    [malformed_texts(), too_many(), too_long(), too_high(), first_in_order(), malformed_above_all()].concat()
+    let single = [malformed_texts(), too_many(), too_long(), too_high(), disagreeing()];
+    let several = [first_in_order(), first_before_11(), malformed_above_all(), malformed_above_11()];
+    [single.concat(), several.concat()].concat()
 }
 
 /// Refusal 20 for lines that are missing or empty, in the first, a middle and the last line.
@@ -276,6 +298,29 @@ fn too_high() -> Vec<Refused> {
     named.into_iter().map(|(name, text)| (name, text.to_string(), 4, 0)).collect()
 }
 
+/// Refusal 11: a kind line disagrees with an earlier one.
+fn disagreeing() -> Vec<Refused> {
+    let blanks = "  boards   4  \n   0    not   (  same  or  above  )   3  \n 0  :  5  (  1  2  ) \n  2:5(1)  ";
+    let eight = "1 ".repeat(8);
+    let eight_and_seven = format!("boards 2\n0:5({eight})\n0:5({})\n", &eight[2..]);
+    let last_of_16 = format!("boards 2\n0:5(1)\n{}0:5()", "0:6(1)\n".repeat(14));
+    let named = [
+        ("one-and-two-ways", "boards 5\n0 : 5 ( 1 )\n2 : 5 ( 3 4 )\n"),
+        ("two-ways-and-one-among-blanks", blanks),
+        ("no-ways-and-one", "boards 2\n0:5()\n1:5(0)\n"),
+        ("one-way-and-none", "boards 2\n0:5(1)\n1:5()"),
+        ("eight-and-seven-ways", &eight_and_seven),
+        ("kind-0-no-ways-and-one", "boards 2\n0 : 0 ( )\n1 : 0 ( 0 )\n"),
+        ("kind-65535-one-way-and-none", "boards 2\n0 : 65535 ( 1 )\n1 : 65535 ( )\n"),
+        ("disagreeing-around-a-relation-line", "boards 2\n0:5(1)\n0 same 1\n1:5()\n"),
+        ("third-line-disagrees-with-first", "boards 2\n0:5(1)\n0:6()\n1:5()\n"),
+        ("third-line-disagrees-with-two-that-agree", "boards 2\n0:5(1)\n1:5(0)\n1:5()\n"),
+        ("two-kinds-disagree", "boards 2\n0:5(1)\n0:6()\n1:5()\n1:6(0)\n"),
+        ("last-of-16-lines-disagrees-with-first-alone", &last_of_16),
+    ];
+    named.into_iter().map(|(name, text)| (name, text.to_string(), 11, 0)).collect()
+}
+
 /// Several faults among 1 to 4: the first in the order of the words made decides.
 fn first_in_order() -> Vec<Refused> {
     let nots = "not ".repeat(15);
@@ -292,6 +337,26 @@ fn first_in_order() -> Vec<Refused> {
         ("3-in-relation-line-before-4-in-earlier-kind-line", format!("boards 2\n0 : 5 ( 2 )\n0 {nots}same 1\n"), 3, 0),
         ("4-in-kind-line-before-3-in-the-next", format!("boards 2\n0 : 5 ( 2 )\n0 : 5 ( {nine})\n"), 4, 0),
         ("3-in-kind-line-before-4-in-the-next", format!("boards 2\n0 : 5 ( {nine})\n0 : 5 ( 2 )\n"), 3, 0),
+    ]
+}
+
+/// Refusals 1, 3 and 4 come before 11, wherever they stand.
+fn first_before_11() -> Vec<Refused> {
+    let disagreeing = "boards 2\n0:5()\n0:5(1)\n";
+    let nots = "not ".repeat(15);
+    let nine = "1 ".repeat(9);
+    vec![
+        ("1-for-no-boards-before-11", disagreeing.replace("boards 2", "boards 0"), 1, 0),
+        ("1-for-17-boards-before-11", disagreeing.replace("boards 2", "boards 17"), 1, 0),
+        ("1-for-17-kind-lines-before-11", format!("boards 2\n{}0:5(1)", "0:5()\n".repeat(16)), 1, 0),
+        ("3-in-relation-line-before-11", format!("{disagreeing}0 {nots}same 1\n"), 3, 0),
+        ("3-in-later-kind-line-before-11", format!("{disagreeing}0:6({nine})\n"), 3, 0),
+        ("nine-ways-of-a-kind-used-before", format!("boards 2\n0:5(1)\n0:5({nine})\n"), 3, 0),
+        ("nine-ways-of-a-kind-used-after", format!("boards 2\n0:5({nine})\n0:5(1)\n"), 3, 0),
+        ("4-in-relation-line-before-11", format!("{disagreeing}0 same 2\n"), 4, 0),
+        ("4-in-later-kind-line-before-11", format!("{disagreeing}2:6()\n"), 4, 0),
+        ("4-in-earlier-kind-line-before-11", "boards 2\n0:6(2)\n0:5()\n0:5(1)\n".to_string(), 4, 0),
+        ("4-in-the-disagreeing-line", "boards 2\n0:5()\n0:5(2)\n".to_string(), 4, 0),
     ]
 }
 
@@ -319,6 +384,17 @@ fn malformed_above_all() -> Vec<Refused> {
         ("20-for-an-empty-line-after-too-many", lines_129 + "\n", 20, 131),
         ("20-in-the-first-line-before-too-many", kinds_17.replace("boards", "board"), 20, 1),
     ]
+}
+
+/// Refusal 20 comes before 11, wherever it stands.
+fn malformed_above_11() -> Vec<Refused> {
+    let named = [
+        ("20-in-the-first-line-before-11", "board 2\n0:5()\n0:5(1)\n", 1),
+        ("20-between-disagreeing-lines", "boards 2\n0:5()\n\n0:5(1)\n", 3),
+        ("20-in-the-disagreeing-line", "boards 2\n0:5()\n0:5(1\n", 3),
+        ("20-after-disagreeing-lines", "boards 2\n0:5()\n0:5(1)\n0 same\n", 4),
+    ];
+    named.into_iter().map(|(name, text, line)| (name, text.to_string(), 20, line)).collect()
 }
 
 /// First lines that are malformed.

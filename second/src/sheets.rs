@@ -51,7 +51,8 @@ pub fn any_relation(chance: &mut Chance, boards: usize, longest: usize) -> Relat
     Relation { p: any_board(chance, boards), q: any_board(chance, boards), expression }
 }
 
-fn any_kind(chance: &mut Chance, boards: usize) -> Kind {
+/// A kind line about anything, of one of few codes.
+pub fn any_kind(chance: &mut Chance, boards: usize) -> Kind {
     let most = chance.pick(&[1, 2, 2, 3, 8]);
     let count = chance.between(0, most);
     let mut others: Vec<u16> = (0..boards as u16).collect();
@@ -98,6 +99,7 @@ fn from_forest(chance: &mut Chance, boards: usize, pairs: usize, panels: usize) 
     add_true_kinds(chance, &forest, &mut draft, panels);
     chance.shuffle(&mut draft.relations);
     chance.shuffle(&mut draft.kinds);
+    draft.mend_codes();
     Sheet { draft, hidden: Some(forest.cells()) }
 }
 
@@ -201,7 +203,7 @@ fn many_kinds(chance: &mut Chance) -> Sheet {
     sheet
 }
 
-/// Changes one kind line: its code, its panel, or its ways.
+/// Changes one kind line: its code, its panel, or its ways. No lines disagree afterwards.
 fn spoil_a_kind(chance: &mut Chance, draft: &mut Draft) {
     let boards = draft.boards;
     let chosen = chance.below(draft.kinds.len());
@@ -217,6 +219,7 @@ fn spoil_a_kind(chance: &mut Chance, draft: &mut Draft) {
         _ if line.ways.len() < 8 => line.ways.push(any_board(chance, boards)),
         _ => line.ways.rotate_left(1),
     }
+    draft.mend_codes();
 }
 
 /// Two panels of one kind with as many ways each, so that rule 7 alone decides. Hidden: the two are
@@ -253,6 +256,7 @@ fn kinds_by_chance(chance: &mut Chance) -> Sheet {
     for _ in 0..chance.pick(&[2, 2, 3, 4, 16]) {
         draft.kinds.push(any_kind(chance, boards));
     }
+    draft.mend_codes();
     for _ in 0..chance.below(4) {
         draft.relations.push(any_relation(chance, boards, 4));
     }

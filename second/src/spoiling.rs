@@ -2,10 +2,56 @@
 
 use crate::chance::Chance;
 use crate::drafts::{any_expression, Draft};
+use crate::sheets::any_kind;
 
-/// The words of the draft with one thing, at times two, made wrong.
-pub fn spoilt(chance: &mut Chance, draft: &Draft) -> Vec<u16> {
+/// Words that are mostly refused: those of the draft with something made wrong, or words by chance.
+pub fn mostly_refused(chance: &mut Chance, draft: &Draft) -> Vec<u16> {
+    match chance.below(100) {
+        0..=64 => spoilt(chance, draft),
+        65..=84 => disagreeing(chance, draft),
+        _ => words_by_chance(chance),
+    }
+}
+
+/// The words of the draft with two kind lines that disagree, or that would if their codes did not differ in a bit.
+fn disagreeing(chance: &mut Chance, draft: &Draft) -> Vec<u16> {
     let mut draft = draft.clone();
+    let changed = disagree(chance, &mut draft);
+    if chance.percent(30) {
+        draft.kinds[changed].code ^= 1 << chance.below(16);
+    }
+    draft.words()
+}
+
+/// Gives a kind line the code of another and, if need be, a way more or less, so that the two disagree; the place
+/// of that line. Lines are added where there are fewer than two or than a few.
+pub fn disagree(chance: &mut Chance, draft: &mut Draft) -> usize {
+    let boards = draft.boards;
+    let least = chance.pick(&[2, 2, 3, 5]);
+    while draft.kinds.len() < least {
+        draft.kinds.push(any_kind(chance, boards));
+    }
+    draft.mend_codes();
+    let count = draft.kinds.len();
+    let first = chance.below(count);
+    let second = (first + chance.between(1, count - 1)) % count;
+    let (code, ways) = (draft.kinds[first].code, draft.kinds[first].ways.len());
+    let line = &mut draft.kinds[second];
+    line.code = code;
+    match line.ways.len() {
+        another if another != ways => {}
+        0..=7 if ways == 0 || chance.percent(50) => line.ways.push(chance.below(boards) as u16),
+        _ => drop(line.ways.pop()),
+    }
+    second
+}
+
+/// The words of the draft with one thing, at times two, made wrong; at times kind lines disagree as well.
+fn spoilt(chance: &mut Chance, draft: &Draft) -> Vec<u16> {
+    let mut draft = draft.clone();
+    if chance.percent(20) {
+        disagree(chance, &mut draft);
+    }
     let both = chance.percent(25);
     let lines_first = chance.percent(60);
     if both || lines_first {
@@ -146,7 +192,7 @@ fn spoil_header(chance: &mut Chance, words: &mut [u16]) {
 }
 
 /// Words by chance, often under a header that passes.
-pub fn words_by_chance(chance: &mut Chance) -> Vec<u16> {
+fn words_by_chance(chance: &mut Chance) -> Vec<u16> {
     let count = chance.between(0, 40);
     let limit = chance.pick(&[4, 9, 20, 65_536]);
     let mut words: Vec<u16> = (0..count).map(|_| chance.below(limit) as u16).collect();

@@ -6,6 +6,7 @@ use crate::drafts::Draft;
 use crate::inputs::lengths;
 use crate::making::Maker;
 use crate::named::{good_drafts, refused_longest, refused_runs};
+use crate::named_kinds::refused_kinds;
 use crate::relations::{converse, ALL, SINGLES};
 use crate::stored_texts;
 
@@ -15,9 +16,12 @@ const SEED: u64 = 2_486;
 
 /// All stored cases, in order.
 pub fn all() -> Vec<Case> {
+    assert_refused_kinds();
     let mut cases = compositions();
     cases.extend(triangles());
     cases.extend(expressions());
+    cases.extend(numbers_of_ways());
+    cases.extend(short_lists());
     cases.extend(good_drafts().iter().flat_map(|(_, draft)| calls_of_draft(draft)));
     cases.extend(refused_runs().iter().flat_map(|(_, words)| calls_of_refused(words)));
     let inputs = lengths().into_iter().filter(|(_, bytes)| bytes.len() <= MOST_SITE_BYTES);
@@ -83,6 +87,44 @@ fn expressions() -> Vec<Case> {
     all.iter().map(|expression| Case::close(&words(expression), &[ALL; 4])).collect()
 }
 
+/// Checks what the named kind lines are refused with.
+fn assert_refused_kinds() {
+    for (name, words, number) in refused_kinds() {
+        let refused = calls::read(&words).number;
+        assert!(refused == number, "{name} is refused with {refused}");
+    }
+}
+
+/// Two kind lines with each pair of numbers of ways, of one code and of codes that differ in a bit.
+fn numbers_of_ways() -> Vec<Case> {
+    let mut cases = Vec::new();
+    for first in 0..=8 {
+        for second in 0..=8 {
+            for code in [7, 7 ^ 1 << ((9 * first + second) % 16)] {
+                let words = Draft::of(2).kind(0, 7, &vec![1; first]).kind(1, code, &vec![0; second]).words();
+                let disagree = code == 7 && first != second;
+                let number = calls::read(&words).number;
+                assert!(number == if disagree { 11 } else { 0 }, "{first} and {second} ways give {number}");
+                cases.push(Case::read(&words));
+            }
+        }
+    }
+    cases
+}
+
+/// All lists of up to four kind lines of two codes with no way or one.
+fn short_lists() -> Vec<Case> {
+    let mut lists = vec![Draft::of(2)];
+    let mut cases = Vec::new();
+    for _ in 0..4 {
+        let lines = [(5, &[][..]), (5, &[1]), (6, &[]), (6, &[1])];
+        let longer = |list: &Draft| lines.map(|(code, ways)| list.clone().kind(0, code, ways));
+        lists = lists.iter().flat_map(longer).collect();
+        cases.extend(lists.iter().map(|list| Case::read(&list.words())));
+    }
+    cases
+}
+
 /// Every call of a good description: a full table, budgets around the tries, its arrangement and near ones.
 fn calls_of_draft(draft: &Draft) -> Vec<Case> {
     let words = draft.words();
@@ -124,12 +166,13 @@ fn calls_of_refused(words: &[u16]) -> Vec<Case> {
     cases
 }
 
-/// Tables of a wrong number of cells, with a cell above 15, with an empty cell, not symmetric,
-/// for a loose, a contradictory and a decided description.
+/// Tables of a wrong number of cells, with a cell above 15, with an empty cell, not symmetric, and an arrangement,
+/// for a loose, a contradictory, a decided and a disagreeing description.
 fn wrong_tables() -> Vec<Case> {
     let loose = Draft::of(3);
     let contradictory = Draft::of(3).kind(0, 5, &[1, 1]);
     let decided = Draft::of(3).kind(0, 5, &[1, 2]);
+    let disagreeing = decided.clone().kind(2, 5, &[]);
     let mut tables: Vec<Vec<u8>> = [0, 1, 4, 8, 10, 16, 256, 512].iter().map(|&count| vec![ALL; count]).collect();
     for wrong in [0, 1, 8, 14, 16, 31, 128, 255] {
         for at in [0, 1, 3, 8] {
@@ -140,8 +183,9 @@ fn wrong_tables() -> Vec<Case> {
     }
     tables.push(vec![0; 9]);
     tables.push(vec![1; 9]);
+    tables.push(vec![1, 2, 2, 4, 1, 8, 4, 8, 1]);
     let mut cases = Vec::new();
-    for draft in [loose, contradictory, decided] {
+    for draft in [loose, contradictory, decided, disagreeing] {
         let words = draft.words();
         for cells in &tables {
             cases.extend([Case::close(&words, cells), Case::search(&words, cells, 3), Case::check(&words, cells)]);

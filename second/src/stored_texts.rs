@@ -6,6 +6,7 @@ use crate::cases::{answered, readable, Call, Case};
 use crate::drafts::Draft;
 use crate::making::Maker;
 use crate::named::{good_drafts, refused_longest, refused_runs};
+use crate::named_kinds::longest_disagreeing;
 use crate::named_texts::{
     expressions, good_texts, longest_text, malformed_first_lines, malformed_lines, refused_texts, text_drafts,
 };
@@ -39,10 +40,11 @@ pub fn all() -> Vec<Case> {
     cases
 }
 
-/// No text is refused with 2 or 5; reading and writing give 0 to 5, 19 and 20, and 20 only for reading.
+/// No text is refused with 2 or 5; reading and writing give 0 to 5, 11, 19 and 20, and 20 only for reading.
 fn assert_numbers(case: &Case) {
     let number = answered(case).answer.number;
-    let numbers: &[u32] = if case.call == Call::Typed { &[0, 1, 3, 4, 19, 20] } else { &[0, 1, 2, 3, 4, 5, 19] };
+    let numbers: &[u32] =
+        if case.call == Call::Typed { &[0, 1, 3, 4, 11, 19, 20] } else { &[0, 1, 2, 3, 4, 5, 11, 19] };
     assert!(numbers.contains(&number), "{}gives {number}", readable(case));
 }
 
@@ -232,6 +234,7 @@ fn writing_cases() -> Vec<Case> {
     let last_faults = ["last-way-too-high", "last-code-8"];
     let refused = refused_longest().into_iter().filter(|(name, _)| last_faults.contains(name));
     cases.extend(refused.map(|(_, words)| Case::texted(&words, 20_000)));
+    cases.push(Case::texted(&longest_disagreeing().words(), 20_000));
     cases
 }
 

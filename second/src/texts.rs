@@ -5,7 +5,7 @@ use crate::cases::{Case, MOST_ROOM_BYTES, MOST_ROOM_WORDS, MOST_TEXT_BYTES};
 use crate::chance::Chance;
 use crate::drafts::{any_expression, Draft, Kind, Relation};
 use crate::sheets::{any_relation, any_sheet};
-use crate::spoiling::{spoilt, words_by_chance};
+use crate::spoiling::{disagree, mostly_refused};
 use crate::symbols::{stands_alone, Symbol};
 use crate::typed::{boards_symbols, kind_symbols, relation_symbols};
 
@@ -14,15 +14,15 @@ type Pieces = Vec<String>;
 
 /// One case of a text or several that belong together.
 pub fn text_cases(chance: &mut Chance) -> Vec<Case> {
-    match chance.below(200) {
+    match chance.below(208) {
         0..=49 => vec![good_case(chance)],
         50..=84 => vec![damaged_byte_case(chance)],
         85..=109 => vec![damaged_piece_case(chance)],
-        110..=124 => vec![faulty_case(chance)],
-        125..=141 => vec![soup_case(chance)],
-        142..=146 => vec![bytes_case(chance)],
-        147..=177 => vec![writing_case(chance)],
-        178..=197 => vec![writing_refused_case(chance)],
+        110..=127 => vec![faulty_case(chance)],
+        128..=144 => vec![soup_case(chance)],
+        145..=149 => vec![bytes_case(chance)],
+        150..=180 => vec![writing_case(chance)],
+        181..=205 => vec![writing_refused_case(chance)],
         _ => vec![huge_case(chance)],
     }
 }
@@ -99,7 +99,7 @@ fn bytes_case(chance: &mut Chance) -> Case {
 fn typed_case(chance: &mut Chance, text: &[u8], needed_before: usize) -> Case {
     let read = words_of_text(text);
     if let Err(refused) = &read {
-        assert!([1, 3, 4, 20].contains(&refused.number), "a text is refused with {}", refused.number);
+        assert!([1, 3, 4, 11, 20].contains(&refused.number), "a text is refused with {}", refused.number);
     }
     let needed = read.map_or(needed_before, |words| words.len());
     Case::typed(text, room_around(chance, needed, MOST_ROOM_WORDS))
@@ -114,7 +114,7 @@ fn writing_case(chance: &mut Chance) -> Case {
 /// A description to be written that is mostly refused.
 fn writing_refused_case(chance: &mut Chance) -> Case {
     let draft = any_draft(chance);
-    let words = if chance.percent(85) { spoilt(chance, &draft) } else { words_by_chance(chance) };
+    let words = mostly_refused(chance, &draft);
     texted_case(chance, &words)
 }
 
@@ -160,6 +160,7 @@ fn any_draft(chance: &mut Chance) -> Draft {
     for _ in 0..chance.pick(&[0, 0, 1, 1, 2, 4]) {
         draft.kinds.push(any_kind(chance, boards));
     }
+    draft.mend_codes();
     draft
 }
 
@@ -171,11 +172,10 @@ fn any_kind(chance: &mut Chance, boards: usize) -> Kind {
     Kind { p: chance.below(boards) as u16, code: chance.below(limit) as u16, ways }
 }
 
-/// Makes something wrong that a text can still say: refusal 1, 3 or 4.
+/// Makes something wrong that a text can still say: refusal 1, 3, 4 or 11.
 fn add_a_fault(chance: &mut Chance, draft: &mut Draft) {
-    let boards = draft.boards.max(1);
     let high = chance.pick(&[draft.boards, draft.boards, draft.boards + 1, 256, 65_535]) as u16;
-    match chance.below(14) {
+    match chance.below(17) {
         0 => draft.boards = chance.pick(&[0, 0, 17, 18, 256, 257, 65_535]),
         1 => draft.boards = chance.below(draft.boards + 1),
         2 => {
@@ -189,28 +189,33 @@ fn add_a_fault(chance: &mut Chance, draft: &mut Draft) {
         4..=6 => {
             let length = chance.pick(&[16, 16, 17, 18, 30]);
             let expression = any_expression(chance, length);
-            let at = chance.below(draft.relations.len() + 1);
-            draft.relations.insert(at, Relation { p: 0, q: chance.below(boards) as u16, expression });
+            let q = chance.below(draft.boards) as u16;
+            insert_relation(chance, draft, Relation { p: 0, q, expression });
         }
         7..=8 => {
             let ways = vec![0; chance.pick(&[9, 9, 10, 20])];
-            let at = chance.below(draft.kinds.len() + 1);
-            draft.kinds.insert(at, Kind { p: 0, code: 1, ways });
+            insert_kind(chance, draft, Kind { p: 0, code: 1, ways });
         }
         9..=10 => {
-            let at = chance.below(draft.relations.len() + 1);
             let (p, q) = if chance.percent(50) { (0, high) } else { (high, 0) };
-            draft.relations.insert(at, Relation { p, q, expression: vec![0] });
+            insert_relation(chance, draft, Relation { p, q, expression: vec![0] });
         }
-        11 => {
-            let at = chance.below(draft.kinds.len() + 1);
-            draft.kinds.insert(at, Kind { p: high, code: 1, ways: Vec::new() });
-        }
+        11 => insert_kind(chance, draft, Kind { p: high, code: 1, ways: Vec::new() }),
+        12..=13 => insert_kind(chance, draft, Kind { p: 0, code: 1, ways: vec![0, high] }),
         _ => {
-            let at = chance.below(draft.kinds.len() + 1);
-            draft.kinds.insert(at, Kind { p: 0, code: 1, ways: vec![0, high] });
+            disagree(chance, draft);
         }
     }
+}
+
+/// Puts a relation line before, between or after the others.
+fn insert_relation(chance: &mut Chance, draft: &mut Draft, line: Relation) {
+    draft.relations.insert(chance.below(draft.relations.len() + 1), line);
+}
+
+/// Puts a kind line before, between or after the others.
+fn insert_kind(chance: &mut Chance, draft: &mut Draft, line: Kind) {
+    draft.kinds.insert(chance.below(draft.kinds.len() + 1), line);
 }
 
 /// The lines of a draft, its two sorts mixed, with parentheses more than needed.

@@ -15,6 +15,9 @@ pub const NO_BOARD: u8 = 4;
 // An expression has a code that there is not, or does not use its length exactly.
 pub const NO_EXPRESSION: u8 = 5;
 
+// A kind line has the code of an earlier one and another number of ways. It is looked for after 5 and before 6.
+pub const DISAGREES: u8 = 11;
+
 // The table has a wrong number of cells, or a cell that is no set.
 pub const NO_TABLE: u8 = 6;
 

@@ -6,10 +6,11 @@ use native.Mathlib.Omega.{arith}
 use lib.ListN.{length, getD, take, drop, take-append-drop, length-drop}
 use lib.Seq.{length-take-le, drop-cons, drop-drop}
 use Rattle.rules.specs.Expressions.{Value, value, malformed, expression, written}
-use Rattle.rules.specs.Descriptions.{RelationLine, KindLine, Sheet, Reading, good, Front, need, next, meaning, relationLine, kindLine, section, numbersFit, offsetsFit, relationLines, kindLines, read, describe}
+use Rattle.rules.specs.Descriptions.{RelationLine, KindLine, Sheet, Reading, good, Front, next, meaning, relationLine, kindLine, section, relationLines, kindLines, read, describe}
 use Rattle.rules.proofs.Expressions.{expression-written}
-use Rattle.rules.proofs.Readings.{never, need-test, need-rest, next-out}
-use Rattle.rules.proofs.Headers.{InRange, Placed, numbers-out, places-out}
+use Rattle.rules.proofs.Readings.{never, next-out}
+use Rattle.rules.proofs.Headers.{InRange, Placed}
+use Rattle.rules.proofs.Descriptions.{read-parts}
 use Rattle.rules.proofs.Lines.{RelationRead, relation-out, KindRead, kind-out, ways-length}
 use Rattle.clauses.specs.Clauses.{Description, line, sheet, formulaWords, labelWords, Writes}
 
@@ -125,42 +126,16 @@ sections-described ws r p ls ks m n a b =
 
 -- the words of a good description write a published one, and it means what they mean
 pub read-writes : (ws : List ℕ) (s : Sheet) → read ws ≡ good s → (φ : Description) × Writes ws φ × (sheet φ ≡ s)
-unfolding read relationLines kindLines
-read-writes ws s e = lines (next-out (relationLines ws) ruled s third)
-  where
-    made : List RelationLine → List KindLine → Sheet
-    made ls ks = record { boards = getD ws 0 0; lines = ls; kinds = ks }
-
-    ruled : List RelationLine → Reading Sheet
-    ruled ls = next (kindLines ws) (λ ks. good (made ls ks))
-
-    second : need 2 (offsetsFit ws) (next (relationLines ws) ruled) ≡ good s
-    second = need-rest 1 (numbersFit ws) (need 2 (offsetsFit ws) (next (relationLines ws) ruled)) s e
-
-    third : next (relationLines ws) ruled ≡ good s
-    third = need-rest 2 (offsetsFit ws) (next (relationLines ws) ruled) s second
-
-    numbers : InRange ws
-    numbers = numbers-out ws (need-test 1 (numbersFit ws) (need 2 (offsetsFit ws) (next (relationLines ws) ruled)) s e)
-
-    places : Placed ws
-    places = places-out ws (need-test 2 (offsetsFit ws) (next (relationLines ws) ruled) s second)
-
-    kinds : (ls : List RelationLine) → Filled formulaWords line (getD ws 1 0) (take (getD ws 4 0 - 6) (drop 6 ws)) ls
-        → (ks : List KindLine) × (kindLines ws ≡ good ks) × (good (made ls ks) ≡ good s) → (φ : Description) × Writes ws φ × (sheet φ ≡ s)
-    kinds ls a (ks, d, g) =
-        let b =
-        section-written labelWords (λ k. k) (kindLine (getD ws 0 0)) (kind-written (getD ws 0 0)) (getD ws 2 0) (drop (getD ws 4 0) ws) ks d in
-        let c : b .written ≡ ks = sym (map-id (b .written)) ∙ b .meant in (
-          record { boards = getD ws 0 0; formulas = a .written; labels = b .written },
-          sections-described ws numbers places (map formulaWords (a .written)) (map labelWords (b .written)) (a .counted) (b .counted) (a .spelt)
-              (b .spelt),
-          ap₂ made (a .meant) c ∙ cc,
-        )
-
-    lines : (ls : List RelationLine) × (relationLines ws ≡ good ls) × (ruled ls ≡ good s) → (φ : Description) × Writes ws φ × (sheet φ ≡ s)
-    lines (ls, d, g) =
-        kinds ls
-        (section-written formulaWords line (relationLine (getD ws 0 0)) (relation-written (getD ws 0 0)) (getD ws 1 0)
-        (take (getD ws 4 0 - 6) (drop 6 ws)) ls d)
-        (next-out (kindLines ws) (λ ks. good (made ls ks)) s g)
+unfolding relationLines kindLines
+read-writes ws s e =
+    let r = read-parts ws s e in
+    let v = getD ws 0 0 in
+    let a =
+    section-written formulaWords line (relationLine v) (relation-written v) (getD ws 1 0) (take (getD ws 4 0 - 6) (drop 6 ws)) (s .lines) (r .lines) in
+    let b = section-written labelWords (λ k. k) (kindLine v) (kind-written v) (getD ws 2 0) (drop (getD ws 4 0) ws) (s .kinds) (r .kinds) in
+    let made : List RelationLine → List KindLine → Sheet = λ ls ks. record { boards = v; lines = ls; kinds = ks } in
+    let same : made (map line (a .written)) (b .written) ≡ made (s .lines) (s .kinds) = ap₂ made (a .meant) (sym (map-id (b .written)) ∙ b .meant) in (
+      record { boards = v; formulas = a .written; labels = b .written },
+      sections-described ws (r .numbers) (r .places) (map formulaWords (a .written)) (map labelWords (b .written)) (a .counted) (b .counted) (a .spelt) (b .spelt),
+      same ∙ ap (λ (n : ℕ). record { boards = n; lines = s .lines; kinds = s .kinds }) (r .boards),
+    )

@@ -4,7 +4,7 @@ use mathlib.Core.Logic.{⊎-elim, _↔_, Iff·trans}
 use mathlib.Core.List.{List}
 use Prim.Native.Nat.{ℕ}
 use lib.Dec.{T, not-T}
-use Rattle.rules.specs.Descriptions.{Sheet, good, read}
+use Rattle.rules.specs.Descriptions.{Sheet, good, read, OneArity}
 use Rattle.rules.specs.Tables.{emptied}
 use Rattle.rules.specs.Arrangements.{Arrangement}
 use Rattle.rules.specs.Closed.{Largest}
@@ -65,6 +65,7 @@ published ws s means P f =
           one = λ ψ u. written-once ws ψ φ u w;
           run = λ us u. one-run us ws φ u w;
           means = writes-means ws s means φ w;
+          arity = subst (λ (u : Sheet). OneArity (u .kinds)) (sym (writes-means ws s means φ w)) (read-wellFormed ws s means .arity);
         }
 
 -- For a good description, the arrangements are exactly the tables whose row sets satisfy the published clauses of the description that the words write.

@@ -1,5 +1,5 @@
--- What every call that is lent a description and a table has in common: it gives 1 to 5, then 6, and a refusal leaves the table. Assumes nothing.
-use mathlib.Core.Path.{_≡_, refl, ap, _∙_}
+-- What every call that is lent a description and a table has in common: it gives 1 to 5 and 11, then 6, and a refusal leaves the table. Assumes nothing.
+use mathlib.Core.Path.{_≡_, refl, sym, ap, _∙_}
 use mathlib.Core.Bool.{Bool, true, false}
 use mathlib.Core.Logic.{⊎-elim}
 use mathlib.Core.List.{List}
@@ -12,8 +12,8 @@ use Rattle.rules.specs.Closed.{strikes}
 use Rattle.rules.specs.Closing.{closing}
 use Rattle.rules.specs.Search.{found, none, Capped, ended, ranOut, search, cap}
 use Rattle.rules.specs.Calls.{Outcome, refuse, succeed, wellFormed, admitted, given, reading, close, answer, searching, arranged, check}
-use Rattle.rules.proofs.Descriptions.{read-numbered}
-use Rattle.rules.proofs.Tests.{T-decide}
+use Rattle.rules.proofs.Descriptions.{read-bounded}
+use Rattle.rules.proofs.Tests.{clash, T-decide}
 use Rattle.rules.proofs.Calls.{table-wellFormed, wellFormed-table, given-refused, given-no-table, given-good}
 use Rattle.answers.specs.declared.Answer.{Answer}
 use Rattle.answers.specs.Answers.{outcome}
@@ -36,10 +36,15 @@ refuses t a w e = record { number = says e; count = counts e; table = leaves e }
 abbrev Leaves : List ℕ → Outcome (List ℕ) → Type 0
 Leaves t o = (o .number ≡ 0 → ⊥) → o .lent ≡ t
 
--- the call gives 1 to 5, then 6, then what f says
+-- its number is not 11
+abbrev Other : Outcome (List ℕ) → Type 0
+Other o = o .number ≡ 11 → ⊥
+
+-- the call gives 1 to 5 and 11, then 6, then what f says, which is not 11
 pub record Gives (ws t : List ℕ) (a : Answer) (w : List ℕ) : Type 0 where
   pub f : Sheet → Outcome (List ℕ)
   pub leaves : (s : Sheet) → Leaves t (f s)
+  pub other : (s : Sheet) → Other (f s)
   pub is : outcome a w ≡ given (admitted ws t) t f
 
 module _ (ws t : List ℕ) where
@@ -56,12 +61,37 @@ module _ (ws t : List ℕ) where
   check-leaves true f = refl
   check-leaves false f = refl
 
+  closing-other : (s : Sheet) (b : Bool) → Other (elim b [ true ↦ refuse 7 0 t | false ↦ succeed (strikes t (closing s t)) (closing s t) ])
+  closing-other s true e = omega (arith, e)
+  closing-other s false e = omega (arith, e)
+
+  search-other : (c : Capped) → Other (answer t c)
+  search-other (ended (found n w)) e = omega (arith, e)
+  search-other (ended (none n)) e = omega (arith, e)
+  search-other (ranOut b) e = omega (arith, e)
+
+  check-other : (b : Bool) → Other (elim b [ true ↦ succeed 0 t | false ↦ refuse 10 0 t ])
+  check-other true e = omega (arith, e)
+  check-other false e = omega (arith, e)
+
   module _ (a : Answer) (w : List ℕ) where
     pub call-gives : Call ws t a w → Gives ws t a w
     unfolding close searching check
-    call-gives (closes c) = record { f = _; leaves = λ s. closing-leaves s (emptied (closing s t)); is = c }
-    call-gives (searches ord b c) = record { f = _; leaves = λ s. search-leaves (cap b (search (closing s) ord (s .boards) t)); is = c }
-    call-gives (checks c e) = record { f = _; leaves = λ s. check-leaves (arranged s t); is = ap (λ (x : List ℕ). outcome a x) e ∙ c }
+    call-gives (closes c) = record { f = _; leaves = λ s. closing-leaves s (emptied (closing s t)); other = λ s. closing-other s (emptied (closing s t)); is = c }
+    call-gives (searches ord b c) =
+        record {
+          f = _;
+          leaves = λ s. search-leaves (cap b (search (closing s) ord (s .boards) t));
+          other = λ s. search-other (cap b (search (closing s) ord (s .boards) t));
+          is = c;
+        }
+    call-gives (checks c e) =
+        record {
+          f = _;
+          leaves = λ s. check-leaves (arranged s t);
+          other = λ s. check-other (arranged s t);
+          is = ap (λ (x : List ℕ). outcome a x) e ∙ c;
+        }
 
     module _ (g : Gives ws t a w) where
       pub gives-description : (n : ℕ) → read ws ≡ refused n → Refuses n t a w
@@ -81,6 +111,20 @@ module _ (ws t : List ℕ) where
               (T-decide (wellFormed (s .boards) t))
           by (refused k) e = gives-description k e .table
 
+      -- 11 shows that the description was refused with it
+      pub gives-eleven : a .number ≡ 11 → read ws ≡ refused 11
+      gives-eleven z = by (read ws) refl
+        where
+          by : (r : Reading Sheet) → read ws ≡ r → read ws ≡ refused 11
+          by (good s) e =
+              ⊎-elim
+              (λ h. let is = g .is ∙ given-good ws t t (g .f) s e (wellFormed-table (s .boards) t h) in absurd (g .other s (sym (says is) ∙ z)))
+              (λ h.
+              let six : a .number ≡ 6 = gives-table s e (λ k. T-not (wellFormed (s .boards) t) h (table-wellFormed (s .boards) t k)) .number in
+              clash (omega (arith, z)))
+              (T-decide (wellFormed (s .boards) t))
+          by (refused k) e = e ∙ ap refused (sym (gives-description k e .number) ∙ z)
+
       -- success shows that both were good
       pub gives-good : a .number ≡ 0 → (s : Sheet) × (read ws ≡ good s) × Table (s .boards) t
       gives-good z = by (read ws) refl
@@ -95,5 +139,5 @@ module _ (ws t : List ℕ) where
               six e = let y : ⊥ = omega (arith, z) in absurd y
           by (refused k) e =
               let n : a .number ≡ k = gives-description k e .number in
-              let l = read-numbered ws k e in
+              let l = read-bounded ws k e in
               let y : ⊥ = omega (arith, z, l) in absurd y

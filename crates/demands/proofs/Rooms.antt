@@ -1,18 +1,18 @@
 -- How the two text calls end, by their promises, and what follows. Assumes nothing.
-use mathlib.Core.Path.{_≡_, refl, sym, ap, _∙_}
+use mathlib.Core.Path.{_≡_, refl, sym, ap, _∙_, subst}
 use mathlib.Core.Bool.{Bool, true, false}
 use mathlib.Core.Logic.{_↔_}
 use mathlib.Core.List.{List, _++_}
 use Prim.Native.Nat.{ℕ, min, _≤_, _<_}
 use native.Mathlib.Omega.{arith}
 use borrow.Author.Tests.{leb-true, leb-false}
-use lib.Dec.{leb}
+use lib.Dec.{T, leb}
 use lib.ListN.{length, take, drop}
 use lib.Seq.{take-append-seam, drop-append-seam}
-use Rattle.rules.specs.Descriptions.{Sheet, Reading, good, refused, read}
+use Rattle.rules.specs.Descriptions.{Sheet, Reading, good, refused, read, refusesDescription}
 use Rattle.rules.specs.Calls.{Outcome, refuse, succeed, given}
 use Rattle.rules.proofs.Tests.{clash}
-use Rattle.rules.proofs.Descriptions.{read-numbered}
+use Rattle.rules.proofs.Descriptions.{read-bounded}
 use Rattle.typed.specs.Grammar.{SheetTyped, FirstMalformed}
 use Rattle.typed.specs.Sheets.{Typed, malformedAt, made, typed}
 use Rattle.typed.specs.Writing.{textOf}
@@ -63,13 +63,13 @@ module _ {ws xs room : List ℕ} {a : Answer} {w : List ℕ} where
       by (refused n) e is = refuses n e is
 
   -- what follows from how it ended
-  pub ends-refused : Ends ws xs room a w → (n : ℕ) → 1 ≤ n → n ≤ 5 → (a .number ≡ n) ↔ (read ws ≡ refused n)
-  ends-refused (refuses m e is) n h k = (λ z. e ∙ ap refused (sym (says is) ∙ z), λ d. says is ∙ (let same : m ≡ n = cc in same))
-  ends-refused (small g l is) n h k = (λ z. clash (omega (arith, says is, z)), λ d. good-not g d)
-  ends-refused (succeeds g l is) n h k = (λ z. clash (omega (arith, says is, z)), λ d. good-not g d)
+  pub ends-refused : Ends ws xs room a w → (n : ℕ) → T (refusesDescription n) → (a .number ≡ n) ↔ (read ws ≡ refused n)
+  ends-refused (refuses m e is) n t = (λ z. e ∙ ap refused (sym (says is) ∙ z), λ d. says is ∙ (let same : m ≡ n = cc in same))
+  ends-refused (small g l is) n t = (λ z. absurd (subst (λ (k : ℕ). T (refusesDescription k)) (sym z ∙ says is) t), λ d. good-not g d)
+  ends-refused (succeeds g l is) n t = (λ z. absurd (subst (λ (k : ℕ). T (refusesDescription k)) (sym z ∙ says is) t), λ d. good-not g d)
 
   pub ends-small : Ends ws xs room a w → (a .number ≡ 19) ↔ (Good ws × (length room < length xs))
-  ends-small (refuses n e is) = (λ z. clash (omega (arith, says is, z, read-numbered ws n e .1)), λ h. good-not (h .0) e)
+  ends-small (refuses n e is) = (λ z. clash (omega (arith, says is, z, read-bounded ws n e .1)), λ h. good-not (h .0) e)
   ends-small (small g l is) = (λ z. (g, l), λ h. says is)
   ends-small (succeeds g l is) = (λ z. clash (omega (arith, says is, z)), λ h. clash (omega (arith, h .1)))
 
@@ -79,12 +79,12 @@ module _ {ws xs room : List ℕ} {a : Answer} {w : List ℕ} where
   ends-succeeds (succeeds h k is) g l = succeeds-there xs room is
 
   pub ends-done : Ends ws xs room a w → a .number ≡ 0 → Good ws × Succeeds xs a w
-  ends-done (refuses n e is) z = clash (omega (arith, says is, z, read-numbered ws n e .0))
+  ends-done (refuses n e is) z = clash (omega (arith, says is, z, read-bounded ws n e .0))
   ends-done (small g l is) z = clash (omega (arith, says is, z))
   ends-done (succeeds g l is) z = (g, succeeds-there xs room is)
 
   pub ends-rest : Ends ws xs room a w → a .number ≡ 0 → (a .count ≤ length room) × (drop (a .count) w ≡ drop (a .count) room)
-  ends-rest (refuses n e is) z = clash (omega (arith, says is, z, read-numbered ws n e .0))
+  ends-rest (refuses n e is) z = clash (omega (arith, says is, z, read-bounded ws n e .0))
   ends-rest (small g l is) z = clash (omega (arith, says is, z))
   ends-rest (succeeds g l is) z =
       (omega (arith, counts is), rw (counts is, leaves is) (drop-append-seam xs (drop (length xs) room)))
@@ -95,7 +95,7 @@ module _ {ws xs room : List ℕ} {a : Answer} {w : List ℕ} where
   ends-leaves (succeeds g l is) f = absurd (f (says is))
 
   pub ends-few : Ends ws xs room a w → a .number ≤ 19
-  ends-few (refuses n e is) = omega (arith, says is, read-numbered ws n e .1)
+  ends-few (refuses n e is) = omega (arith, says is, read-bounded ws n e .1)
   ends-few (small g l is) = omega (arith, says is)
   ends-few (succeeds g l is) = omega (arith, says is)
 

@@ -65,11 +65,11 @@ text-reader =
       description-exactly = λ text ws t room a w call. ends-refused (reader-ends text (typed-made t) call);
       never-2 = λ text room a w call z.
           let (ws, t, e) = told-writes (reader-told text call) (not-20 z (omega arith)) in
-          typed-never-2 t (ends-refused e 2 (omega arith) (omega arith) .0 z);
+          typed-never-2 t (ends-refused e 2 tt .0 z);
       too-many-lines = λ text ws t room a w call m.
-          ends-refused (reader-ends text (typed-made t) call) 1 (omega arith) (omega arith) .1 (typed-many t m);
+          ends-refused (reader-ends text (typed-made t) call) 1 tt .1 (typed-many t m);
       too-long-expression = λ text ws t room a w call l k rs us r e g m.
-          ends-refused (reader-ends text (typed-made t) call) 3 (omega arith) (omega arith) .1 (typed-long t l k rs us r e g m);
+          ends-refused (reader-ends text (typed-made t) call) 3 tt .1 (typed-long t l k rs us r e g m);
       no-room-exactly = λ text ws t room a w call. ends-small (reader-ends text (typed-made t) call);
       most-words-enough = λ text room a w call l z.
           let (ws, t, e) = told-writes (reader-told text call) (not-20 z (omega arith)) in

@@ -1,7 +1,8 @@
 -- What each entry point may answer and leave, by its promise; the description that words write; runs of closings; the three demands, sentence by
--- sentence; and so what is asked of reading and writing a typed sheet.
+-- sentence; and so what is asked of reading and writing a typed sheet, and of kind codes.
 pub mod Entries
 pub mod Published
 pub mod Runs
 pub mod Sentences
 pub mod Texts
+pub mod Arities

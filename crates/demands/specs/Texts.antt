@@ -3,8 +3,9 @@ use mathlib.Core.Path.{_≡_}
 use mathlib.Core.Logic.{_⊎_, _↔_}
 use mathlib.Core.List.{List, [], _∷_, _++_, List·Memᴰ}
 use Prim.Native.Nat.{ℕ, min, _≤_, _<_}
+use lib.Dec.{T}
 use lib.ListN.{length, getD, take, drop}
-use Rattle.rules.specs.Descriptions.{mostLines, mostKinds, mostExpressionWords, mostWords, refused, read, describe}
+use Rattle.rules.specs.Descriptions.{mostLines, mostKinds, mostExpressionWords, mostWords, refused, read, refusesDescription, describe}
 use Rattle.typed.specs.Symbols.{mostNumber}
 use Rattle.typed.specs.Grammar.{linesOf, SheetTyped, FirstMalformed}
 use Rattle.typed.specs.Writing.{textOf}
@@ -62,8 +63,8 @@ pub record TextReader (Reads : RoomCall) : Type 0 where
   -- without a malformed line the text writes a description, and no other.
   pub written-otherwise : EachRoom Reads
       (λ text room a w. (a .number ≡ 20 → ⊥) → (ws : List ℕ) × SheetTyped text ws × ((us : List ℕ) → SheetTyped text us → us ≡ ws))
-  -- Then 1 to 5 on the words made, and never 2
-  pub description-exactly : EachSheet Reads (λ text ws t room a w. (n : ℕ) → 1 ≤ n → n ≤ 5 → (a .number ≡ n) ↔ (read ws ≡ refused n))
+  -- Then 1 to 5, and 11, on the words made, and never 2
+  pub description-exactly : EachSheet Reads (λ text ws t room a w. (n : ℕ) → T (refusesDescription n) → (a .number ≡ n) ↔ (read ws ≡ refused n))
   pub never-2 : EachRoom Reads (λ text room a w. a .number ≡ 2 → ⊥)
   -- (too many lines is 1,
   pub too-many-lines : EachSheet Reads
@@ -82,8 +83,8 @@ pub record TextReader (Reads : RoomCall) : Type 0 where
 
 -- Of a writer:
 pub record TextWriter (Writes : RoomCall) : Type 0 where
-  -- The writer gives 1 to 5 first;
-  pub description-exactly : EachRoom Writes (λ ws room a w. (n : ℕ) → 1 ≤ n → n ≤ 5 → (a .number ≡ n) ↔ (read ws ≡ refused n))
+  -- The writer gives 1 to 5, and 11, first;
+  pub description-exactly : EachRoom Writes (λ ws room a w. (n : ℕ) → T (refusesDescription n) → (a .number ≡ n) ↔ (read ws ≡ refused n))
   -- last, 19 where the lent room is too small (room for the longest text is always enough);
   pub no-room-exactly : EachRoom Writes (λ ws room a w. (a .number ≡ 19) ↔ (Good ws × (length room < length (textOf ws))))
   pub most-text-enough : EachRoom Writes (λ ws room a w. Words16 ws → mostText ≤ length room → a .number ≡ 19 → ⊥)

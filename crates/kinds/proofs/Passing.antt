@@ -1,7 +1,7 @@
 -- A walk along the lines of a section strikes by the rules of each line: it begins with none of them, takes in each line that is met, and after the last
 -- has struck by the rules of all that the section means. Assumes nothing.
 use mathlib.Core.Path.{_≡_, sym, ap, _∙_, subst}
-use mathlib.Core.List.{List, [], _∷_, _++_, flatMap, append-nil}
+use mathlib.Core.List.{List, [], _∷_, _++_, flatMap, append-nil, List·Memᴰ, List·Memᴰ·head, Memᴰ·append-right}
 use Prim.Native.Nat.{ℕ, zero, suc, _+_, _-_, _≤_, _<_}
 use native.Mathlib.Omega.{arith}
 use lib.ListN.{length, drop}
@@ -9,9 +9,9 @@ use Rattle.rules.specs.Descriptions.{KindLine, Reading, good, Front, kindLine, 
 use Rattle.rules.specs.Tables.{Table}
 use Rattle.rules.specs.Closing.{Rule}
 use Rattle.rules.proofs.Parts.{Suffix}
-use Rattle.rules.proofs.Readings.{never, next-out}
+use Rattle.rules.proofs.Readings.{never}
 use Rattle.rules.proofs.Lines.{kind-suffix}
-use Rattle.rules.proofs.Walks.{Walk, walk-start, walk-none, walk-next, walk-passed, walk-lines}
+use Rattle.rules.proofs.Walks.{section-met, Walk, walk-start, walk-none, walk-next, walk-passed, walk-lines}
 use Rattle.passes.specs.Passes.{Ready, Kept, Pass, Quiet, Once}
 use Rattle.passes.proofs.Passes.{pass-from, pass-start, pass-more, once-from, once-start, once-more, ready-kept}
 use Rattle.kinds.specs.declared.KindLine as declared
@@ -100,16 +100,13 @@ module _ {X : Type 0} {v : ℕ} {R : Strikes} (s : Striking v R) {f : List X →
 
 module _ (v count : ℕ) (ws : List ℕ) (has : HasKinds v count ws) {at left : ℕ} (w : Walk (kindLine v) count ws at left) (more : 0 < left) where
   -- the kind line that is met, and where it stands
-  kind-met : (g : Front KindLine) × (kindLine v (drop at ws) ≡ good g)
-  unfolding section
-  kind-met = let r = walk-lines (kindLine v) count ws w (has .0) (has .1) in go left more (r .0) (r .1)
-    where
-      go : (n : ℕ) → 0 < n → (ks : List KindLine) → section (kindLine v) n (drop at ws) ≡ good ks
-          → (g : Front KindLine) × (kindLine v (drop at ws) ≡ good g)
-      go zero h ks e = let z : ⊥ = omega arith in absurd z
-      go (suc n) h ks e = let g = next-out (kindLine v (drop at ws)) _ ks e in (g .0, g .1)
+  pub kind-met : (g : Front KindLine) × (kindLine v (drop at ws) ≡ good g)
+  kind-met =
+      let (rest, d, e) = walk-lines (kindLine v) count ws w (has .0) (has .1) in
+      let (g, f, ls, h) = section-met (kindLine v) left more (drop at ws) rest d in
+      (g, f)
 
-  met-at : ReadAt v ws at (kind-met .0)
+  pub met-at : ReadAt v ws at (kind-met .0)
   met-at = read-at v ws at (w .within) (kind-met .0) (kind-met .1)
 
 module _ {v : ℕ} {R : Strikes} (s : Striking v R) {f : List KindLine → KindLine → List Rule} {count : ℕ} {ws t : List ℕ} {a : ℕ} {u : List ℕ}
@@ -124,6 +121,18 @@ module _ {v : ℕ} {R : Strikes} (s : Striking v R) {f : List KindLine → KindL
     pub kind-ready : Ready v u × StandsIn v ws k
     kind-ready =
         (ready-kept ready (along-kept s along has), subst (StandsIn v ws) (sym found) (met-at v count ws has (along .walk) more .stands))
+
+    -- it is one of the lines
+    pub kind-among : WithKinds v count ws (λ ks. List·Memᴰ (lineAt ws k) ks)
+    kind-among ks p =
+        let (rest, d, e) = walk-lines (kindLine v) count ws (along .walk) ks p in
+        let (g, f, ls, h) = section-met (kindLine v) left more (drop at ws) rest d in
+        let m = kind-met v count ws has (along .walk) more in
+        let same : good (m .0) ≡ good g = sym (m .1) ∙ f in
+        let one : m .0 .line ≡ g .line = cc in
+        let there : m .0 .line ≡ lineAt ws (kindAt ws at) = met-at v count ws has (along .walk) more .line in
+        subst (λ (js : List KindLine). List·Memᴰ (lineAt ws k) js) (sym (e ∙ ap (λ (js : List KindLine). along .walk .done ++ js) h))
+        (Memᴰ·append-right (along .walk .done) (List·Memᴰ·head (ap (lineAt ws) found ∙ sym there ∙ one)))
 
     -- its rules strike, and the next line begins where it ends
     pub kind-next : {w : List ℕ} {n : ℕ} → WithKinds v count ws (λ ks. R (f ks (lineAt ws k)) u 0 w n)

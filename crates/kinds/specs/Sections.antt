@@ -2,7 +2,7 @@
 use mathlib.Core.Path.{_≡_}
 use mathlib.Core.List.{List}
 use Prim.Native.Nat.{ℕ}
-use Rattle.rules.specs.Descriptions.{RelationLine, KindLine, Reading, Front, good, relationLine, kindLine, section}
+use Rattle.rules.specs.Descriptions.{RelationLine, KindLine, Reading, Front, good, relationLine, kindLine, section, OneArity}
 
 module _ {X : Type 0} (line : List ℕ → Reading (Front X)) (count : ℕ) (ws : List ℕ) where
   -- these lines, as many as count says, fill the words
@@ -26,6 +26,10 @@ HasKinds v = SomeFill (kindLine v)
 
 abbrev pub WithKinds : ℕ → ℕ → List ℕ → (List KindLine → Type 0) → Type 0
 WithKinds v = WithFill (kindLine v)
+
+-- such lines fill the words, and those of one code have as many ways
+abbrev pub HasAgreed : ℕ → ℕ → List ℕ → Type 0
+HasAgreed v count ws = HasKinds v count ws × WithKinds v count ws OneArity
 
 -- relation lines for boards below v
 abbrev pub HasLines : ℕ → ℕ → List ℕ → Type 0

@@ -12,7 +12,7 @@ use Rattle.rules.specs.Tables.{cell, range, filled}
 use Rattle.rules.specs.Closing.{closing}
 use Rattle.rules.specs.Search.{End, found, none, tries, ended, ranOut, plainOrder, search, cap}
 use Rattle.rules.specs.Calls.{Outcome, refuse, succeed, wellFormed, admitted, given, answer, searching}
-use Rattle.rules.proofs.Descriptions.{read-numbered}
+use Rattle.rules.proofs.Descriptions.{read-bounded}
 use Rattle.words.specs.Words.{words}
 use Rattle.puts.specs.Decimals.{decimal}
 use Rattle.puts.proofs.Decimals.{decimal-two, decimal-five}
@@ -139,7 +139,7 @@ module _ (ws : List ℕ) where
       → length (told boards (given (next r (λ s. need 6 (wellFormed (s .boards) table) (good s))) table (searched boards table))) ≤ most
   reading-short (good s) e = table-short boards table (read-in-range ws s e .boards) s (wellFormed (s .boards) table)
   reading-short (refused n) e =
-      let k = read-numbered ws n e in
+      let k = read-bounded ws n e in
       told-refused-short boards (refuse n 0 table) (λ z. let w : ⊥ = omega (arith, k .0) in absurd w) (omega (arith, k .1))
 
   solved-short : length (solved ws) ≤ most

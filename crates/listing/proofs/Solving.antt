@@ -7,14 +7,13 @@ use native.Mathlib.Omega.{arith}
 use borrow.Author.Tests.{eq-eqb, ne-eqb}
 use lib.Dec.{eqb, leb, eqb→eq, leb→le, le→leb}
 use lib.ListN.{length, getD}
-use Rattle.rules.specs.Descriptions.{mostBoards, Sheet, Reading, good, refused, numbersFit, read}
+use Rattle.rules.specs.Descriptions.{mostBoards, Sheet, Reading, good, refused, read}
 use Rattle.rules.specs.Search.{plainOrder}
 use Rattle.rules.specs.Calls.{Outcome, reading, fresh, searching}
 use Rattle.rules.specs.Tables.{filled}
 use Rattle.rules.proofs.Tests.{true-T, T-true, T-false, and-T, T-and-left, T-and-right}
-use Rattle.rules.proofs.Readings.{need-test}
-use Rattle.rules.proofs.Headers.{InRange, numbers-out}
-use Rattle.rules.proofs.Descriptions.{read-numbered}
+use Rattle.rules.proofs.Headers.{InRange}
+use Rattle.rules.proofs.Descriptions.{read-parts, read-bounded}
 use Rattle.rules.proofs.Calls.{admitted-refused}
 use Rattle.rules.proofs.Called.{search-refused}
 use Rattle.rules.proofs.Freshness.{fresh-full}
@@ -61,8 +60,7 @@ module _ {v : ℕ} (ws t : List ℕ) {u w : List ℕ} {a b : Answer} (some : 1 �
 module _ (ws : List ℕ) where
   -- the numbers of a good description are in range
   pub read-in-range : (s : Sheet) → read ws ≡ good s → InRange ws
-  unfolding read
-  read-in-range s e = numbers-out ws (need-test 1 (numbersFit ws) _ s e)
+  read-in-range s e = read-parts ws s e .numbers
 
   -- what is printed is told of a search of a full table
   pub solved-searched : {v : ℕ} → v ≡ getD ws 0 0 → solved ws ≡ told v (searching plainOrder ws (filled v) budget)
@@ -80,7 +78,7 @@ module _ (ws : List ℕ) where
       where
         go : (r : Reading Sheet) → read ws ≡ r → _≡_ {A = ℕ} (elim r [ good s ↦ 0 | refused n ↦ n ]) 0 → InRange ws
         go (good s) d z = read-in-range s d
-        go (refused n) d z = let w : ⊥ = omega (arith, read-numbered ws n d) in absurd w
+        go (refused n) d z = let w : ⊥ = omega (arith, read-bounded ws n d) in absurd w
 
     pub solved-refused : (a .number ≡ 0 → ⊥) → solved ws ≡ refusalLine (a .number)
     unfolding reading solved

@@ -5,6 +5,6 @@ use Rattle.rules.specs.Calls.{admitted}
 use Rattle.headers.specs.declared.HeaderFound.{HeaderFound}
 use Rattle.headers.specs.Found.{numbersFound}
 
--- the header of the description, or the first refusal: 1 to 5, then 6
+-- the header of the description, or the first refusal: 1 to 5, then 11, then 6
 abbrev pub admittedFound : List ℕ → List ℕ → HeaderFound
 admittedFound ws t = numbersFound ws (admitted ws t)

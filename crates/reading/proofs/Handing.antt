@@ -10,7 +10,7 @@ use lib.Seq.{sets, sets-eq}
 use Rattle.rules.specs.Descriptions.{Sheet, Reading, good, refused, read}
 use Rattle.rules.specs.Calls.{Outcome, refuse, succeed, given, reading}
 use Rattle.rules.proofs.Tests.{clash}
-use Rattle.rules.proofs.Descriptions.{read-numbered}
+use Rattle.rules.proofs.Descriptions.{read-bounded}
 use Rattle.answers.specs.declared.Answer.{Answer}
 use Rattle.answers.specs.Answers.{answered}
 use Rattle.typed.specs.Calls.{inRoom}
@@ -48,7 +48,7 @@ read-good {P} ws h f = go (read ws) refl
   where
     go : (r : Reading Sheet) → read ws ≡ r → P
     go (good s) e = f s e
-    go (refused n) e = clash (omega (arith, h, ap number-of e, read-numbered ws n e .0))
+    go (refused n) e = clash (omega (arith, h, ap number-of e, read-bounded ws n e .0))
 
 pub given-read : {L : Type 0} (ws : List ℕ) (l : L) (o : Outcome L) → reading ws ≡ 0 → o ≡ given (read ws) l (λ s. o)
 given-read {L} ws l o h = read-good ws h (λ s e. sym (ap (λ (r : Reading Sheet). given r l (λ s. o)) e))

@@ -7,9 +7,10 @@ use native.Mathlib.Omega.{arith}
 use borrow.Author.Tests.{leb-true, leb-false}
 use lib.Dec.{leb}
 use lib.ListN.{length, getD, length-map}
-use Rattle.rules.specs.Descriptions.{mostExpressionWords, mostWays, RelationLine, KindLine, Sheet, Reading, good, refused, Front, need, relationLine, kindLine, read, describe}
+use Rattle.rules.specs.Descriptions.{mostExpressionWords, mostWays, RelationLine, KindLine, Sheet, Reading, good, refused, Front, need, relationLine, kindLine, agreed, read, describe}
 use Rattle.rules.proofs.Members.{All}
-use Rattle.rules.proofs.Readings.{never, need-rest}
+use Rattle.rules.proofs.Readings.{never, need-rest, next-out}
+use Rattle.rules.proofs.Arities.{agreed-out}
 use Rattle.rules.proofs.Lines.{relation-misfits, relation-out, kind-misfits, kind-out}
 use Rattle.typed.specs.Brief.{brief}
 use Rattle.typed.proofs.Brief.{brief-whole}
@@ -33,9 +34,11 @@ lines-good v rs ks h k s e =
     go : (a : Reading (List RelationLine)) (b : Reading (List KindLine)) → lineByLine (relationLine v) rs ≡ a → lineByLine (kindLine v) ks ≡ b
         → bothRead v a b ≡ good s → Reads (relationLine v) rs (s .lines) × Reads (kindLine v) ks (s .kinds)
     go (good ls) (good ms) p q d =
-        let same : record { boards = v; lines = ls; kinds = ms } ≡ s = cc in (
+        let (ns, a, b) = next-out (agreed ms) _ s d in
+        let (all, one) = agreed-out ms ns a in
+        let same : record { boards = v; lines = ls; kinds = ns } ≡ s = cc in (
           lines-read (relationLine v) rs (s .lines) (p ∙ ap (λ (t : Sheet). good (t .lines)) same),
-          lines-read (kindLine v) ks (s .kinds) (q ∙ ap (λ (t : Sheet). good (t .kinds)) same),
+          lines-read (kindLine v) ks (s .kinds) (q ∙ ap good all ∙ ap (λ (t : Sheet). good (t .kinds)) same),
         )
     go (good ls) (refused n) p q d = never n s d
     go (refused n) b p q d = never n s d

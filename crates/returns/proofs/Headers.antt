@@ -1,16 +1,16 @@
 -- The header of words that describe lines is right, so that these words are never refused with 2. Assumes nothing.
 use mathlib.Core.Path.{_≡_, refl, sym, ap, _∙_}
 use mathlib.Core.Bool.{Bool, true, false, _&&_}
-use mathlib.Core.List.{List, [], _∷_, flatten}
-use Prim.Native.Nat.{ℕ, zero, suc, _+_, _-_, _≤_}
+use mathlib.Core.List.{List, flatten}
+use Prim.Native.Nat.{ℕ, _+_, _-_, _≤_}
 use native.Mathlib.Omega.{arith}
 use borrow.Author.Tests.{le-leb}
-use lib.Dec.{leb, ltb}
-use lib.ListN.{length, take, length-append}
+use lib.Dec.{leb}
+use lib.ListN.{length, length-append}
 use lib.Seq.{take-at, drop-drop, drop-append-seam}
-use Rattle.rules.specs.Expressions.{Value, value, malformed, expression}
-use Rattle.rules.specs.Descriptions.{mostBoards, mostLines, mostKinds, mostExpressionWords, mostWays, RelationLine, KindLine, Sheet, Reading, good, refused, Front, need, next, meaning, boardsOnly, relationLine, kindLine, section, numbersFit, offsetsFit, relationLines, kindLines, read, describe}
+use Rattle.rules.specs.Descriptions.{mostBoards, mostLines, mostKinds, RelationLine, KindLine, Sheet, Reading, good, refused, need, next, relationLine, kindLine, section, numbersFit, offsetsFit, relationLines, kindLines, agreed, read, describe}
 use Rattle.rules.proofs.Tests.{clash, T-true}
+use Rattle.rules.proofs.Refusals.{Only, only-next, only-agreed, only-kinds, only-relations}
 use Rattle.rules.proofs.Headers.{places-in}
 
 -- the numbers of boards and of lines are in range
@@ -19,7 +19,7 @@ inRange v r k = (leb 1 v && leb v mostBoards) && leb r mostLines && leb k mostKi
 
 -- a sheet of v boards, of what is read of its two sections
 abbrev pub bothRead : ℕ → Reading (List RelationLine) → Reading (List KindLine) → Reading Sheet
-bothRead v a b = next a (λ ls. next b (λ ks. good (record { boards = v; lines = ls; kinds = ks })))
+bothRead v a b = next a (λ ls. next (next b agreed) (λ ks. good (record { boards = v; lines = ls; kinds = ks })))
 
 -- the header of a description of these lines: its offsets fit, its numbers are those of the lines, and its sections are the lines
 pub record Header (v : ℕ) (rs ks : List (List ℕ)) : Type 0 where
@@ -52,49 +52,9 @@ read-described v rs ks =
 
 -- ---- never refused with 2
 
--- a refusal is of the lines: 3 or more
-abbrev Late : {X : Type 0} → Reading X → Type 0
-Late (good x) = Unit {0}
-Late (refused n) = 3 ≤ n
-
-need-late : {X : Type 0} (n : ℕ) (b : Bool) (r : Reading X) → 3 ≤ n → Late r → Late (need n b r)
-need-late n true r h g = g
-need-late n false r h g = h
-
-next-late : {X Y : Type 0} (r : Reading Y) (f : Y → Reading X) → Late r → ((y : Y) → Late (f y)) → Late (next r f)
-next-late (good y) f h g = g y
-next-late (refused n) f h g = h
-
-meaning-late : (x : Value) → Late (meaning x)
-meaning-late (value x []) = tt
-meaning-late (value x (w ∷ ws)) = omega arith
-meaning-late malformed = omega arith
-
-relation-late : (v : ℕ) (ws : List ℕ) → Late (relationLine v ws)
-unfolding relationLine
-relation-late v [] = omega arith
-relation-late v (p ∷ []) = omega arith
-relation-late v (p ∷ q ∷ []) = omega arith
-relation-late v (p ∷ q ∷ n ∷ ws) =
-    need-late 3 (leb 1 n && leb n mostExpressionWords && leb n (length ws)) _ (omega arith)
-    (need-late 4 (ltb p v && ltb q v) _ (omega arith) (next-late (meaning (expression (take n ws))) _ (meaning-late (expression (take n ws))) (λ x. tt)))
-
-kind-late : (v : ℕ) (ws : List ℕ) → Late (kindLine v ws)
-unfolding kindLine
-kind-late v [] = omega arith
-kind-late v (p ∷ []) = omega arith
-kind-late v (p ∷ c ∷ []) = omega arith
-kind-late v (p ∷ c ∷ n ∷ ws) =
-    need-late 3 (leb n mostWays && leb n (length ws)) _ (omega arith)
-    (need-late 4 (ltb p v && boardsOnly v (take n ws)) (good _) (omega arith) tt)
-
-section-late : {X : Type 0} (line : List ℕ → Reading (Front X)) → ((ws : List ℕ) → Late (line ws)) → (n : ℕ) (ws : List ℕ)
-    → Late (section line n ws)
-unfolding section
-section-late line h zero [] = tt
-section-late line h zero (w ∷ ws) = omega arith
-section-late line h (suc n) ws =
-    next-late (line ws) _ (h ws) (λ l. next-late (section line n (l .rest)) _ (section-late line h n (l .rest)) (λ ls. tt))
+-- a refusal of the lines is 3 or more
+abbrev Late : ℕ → Type 0
+Late n = 3 ≤ n
 
 -- words that describe lines are never refused with 2
 pub never-misplaced : (v : ℕ) (rs ks : List (List ℕ)) → read (describe v rs ks) ≡ refused 2 → ⊥
@@ -102,11 +62,12 @@ never-misplaced v rs ks e =
     let a = section (relationLine v) (length rs) (flatten rs) in
     let b = section (kindLine v) (length ks) (flatten ks) in
     go (inRange v (length rs) (length ks)) (bothRead v a b)
-    (next-late a _ (section-late (relationLine v) (relation-late v) (length rs) (flatten rs))
-    (λ ls. next-late b _ (section-late (kindLine v) (kind-late v) (length ks) (flatten ks)) (λ ms. tt)))
+    (only-next Late a _ (only-relations Late (omega arith) (omega arith) (omega arith) v (length rs) (flatten rs))
+    (λ ls. only-next Late (next b agreed) _
+    (only-next Late b agreed (only-kinds Late (omega arith) (omega arith) v (length ks) (flatten ks)) (only-agreed Late (omega arith))) (λ ms. tt)))
     (sym (read-described v rs ks) ∙ e)
   where
-    go : (b : Bool) (r : Reading Sheet) → Late r → need 1 b r ≡ refused 2 → ⊥
+    go : (b : Bool) (r : Reading Sheet) → Only Late r → need 1 b r ≡ refused 2 → ⊥
     go true (good s) h p = clash (cc)
     go true (refused n) h p = let d : n ≡ 2 = cc in omega arith
     go false r h p = clash (cc)

@@ -30,4 +30,4 @@ one-outcome v rs t u w Emptied Emptied f g = (refl, λ z. absurd (z refl))
 
 pub rounds-determined : OfTwo 2 rounds-kinds.ps rounds-kinds.r rounds.Asked rounds.Learnt (λ κs x y d e. Fixed x y (d .1 .1 .1 .0 .now) (e .1 .1 .1 .0 .now))
 rounds-determined κs a asked x y d e p q =
-    one-outcome (a .0) (rulesAgain (a .0) (asked .1 .0)) (a .1 .1 .1 .0 .now) (d .1 .1 .1 .0 .now) (e .1 .1 .1 .0 .now) x y (p (asked .1 .0) (asked .1 .1)) (q (asked .1 .0) (asked .1 .1))
+    one-outcome (a .0) (rulesAgain (a .0) (asked .1 .0 .0)) (a .1 .1 .1 .0 .now) (d .1 .1 .1 .0 .now) (e .1 .1 .1 .0 .now) x y (p (asked .1 .0 .0) (asked .1 .0 .1)) (q (asked .1 .0 .0) (asked .1 .0 .1))

@@ -2,7 +2,7 @@
 mod walks;
 
 ghost use Rattle.passes.specs.Passes.{Ready};
-ghost use Rattle.kinds.specs.Sections.{HasKinds, WithKinds};
+ghost use Rattle.kinds.specs.Sections.{WithKinds, HasAgreed};
 ghost use Rattle.rounds.specs.Rounds.{rulesAgain, afterRound, afterRounds};
 use crate::walks::rules6;
 use crate::walks::rules7;
@@ -12,7 +12,7 @@ use sweeps::rules3;
 
 // Follows rules 2, 6, 7 and 3 once each. `words` are the `count` kind lines.
 fn round(v: usize, count: usize, words: &[u16], cells: &mut [u8]) -> Swept
-    requires { ⌜ Ready v (now cells) × HasKinds v count (now words) ⌝ }
+    requires { ⌜ Ready v (now cells) × HasAgreed v count (now words) ⌝ }
     ensures { λ r. ⌜ WithKinds v count (now (words .entry)) (λ ks. afterRound v (rulesAgain v ks) (now (cells .entry)) (now (cells .exit)) r) ⌝ }
 {
     let turned = rules2(v, cells);
@@ -27,7 +27,7 @@ fn round(v: usize, count: usize, words: &[u16], cells: &mut [u8]) -> Swept
 
 // Repeats rules 2, 6, 7 and 3 until a round strikes nothing. `words` are the `count` kind lines.
 pub fn rounds(v: usize, count: usize, words: &[u16], cells: &mut [u8]) -> Swept
-    requires { ⌜ Ready v (now cells) × HasKinds v count (now words) ⌝ }
+    requires { ⌜ Ready v (now cells) × HasAgreed v count (now words) ⌝ }
     ensures { λ r. ⌜ WithKinds v count (now (words .entry)) (λ ks. afterRounds v (rulesAgain v ks) (now (cells .entry)) (now (cells .exit)) r) ⌝ }
 {
     let mut struck = 0;

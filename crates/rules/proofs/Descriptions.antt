@@ -1,18 +1,20 @@
--- What is read is well-formed, and reading refuses with 1 to 5 only. Assumes nothing.
-use mathlib.Core.Path.{_≡_, sym, ap, _∙_, subst}
-use mathlib.Core.Bool.{Bool, true, false, _&&_}
+-- What is read is well-formed, and reading refuses with 1 to 5 and 11 only. Assumes nothing.
+use mathlib.Core.Path.{_≡_, refl, sym, ap, _∙_, subst}
+use mathlib.Core.Bool.{_&&_}
 use mathlib.Core.Logic.{⊎-elim}
 use mathlib.Core.List.{List, [], _∷_, List·Memᴰ, List·Memᴰ·not-nil, List·Memᴰ·cases-cons}
 use Prim.Native.Nat.{ℕ, zero, suc, _≤_, _<_}
 use native.Mathlib.Omega.{arith}
-use lib.Dec.{T, leb, ltb}
+use lib.Dec.{T, leb, eqb, leb→le, eqb→eq}
 use lib.ListN.{length, getD, take, drop}
-use Rattle.rules.specs.Expressions.{Value, value, malformed, expression}
-use Rattle.rules.specs.Descriptions.{mostExpressionWords, mostWays, RelationLine, KindLine, Sheet, WellFormed, Reading, good, refused, Front, need, next, meaning, relationLine, boardsOnly, kindLine, section, numbersFit, offsetsFit, relationLines, kindLines, read}
+use Rattle.rules.specs.Descriptions.{mostWays, RelationLine, KindLine, Sheet, WellFormed, Reading, good, refused, Front, need, next, relationLine, kindLine, section, numbersFit, offsetsFit, agreed, OneArity, relationLines, kindLines, read, refusesDescription}
+use Rattle.rules.proofs.Tests.{T-and-left, T-and-right, T-or}
 use Rattle.rules.proofs.Members.{All}
 use Rattle.rules.proofs.Readings.{never, need-test, need-rest, next-out}
+use Rattle.rules.proofs.Refusals.{Only, only-need, only-next, only-agreed, only-kinds, only-relations}
+use Rattle.rules.proofs.Arities.{agreed-out}
 use Rattle.rules.proofs.Lines.{relation-out, kind-out, ways-length, boardsOnly-out}
-use Rattle.rules.proofs.Headers.{InRange, numbers-out}
+use Rattle.rules.proofs.Headers.{InRange, Placed, numbers-out, places-out}
 
 -- ---- what is read
 
@@ -41,6 +43,9 @@ module _ {X : Type 0} where
                     (List·Memᴰ·cases-cons (subst (λ (l : List X). List·Memᴰ x l) (sym e) i)),
               )
 
+  pub section-counted : (line : List ℕ → Reading (Front X)) (n : ℕ) (ws : List ℕ) (xs : List X) → section line n ws ≡ good xs → length xs ≡ n
+  section-counted line n ws xs e = section-out line (λ x. Unit {0}) (λ us l d. tt) n ws xs e .0
+
 -- the boards of a relation line, and of a kind line
 abbrev Relation : ℕ → RelationLine → Type 0
 Relation v l = (l .p < v) × (l .q < v)
@@ -61,16 +66,38 @@ kindLine-out v ws f e =
       boardsOnly-out v (take (getD ws 2 0) (drop 3 ws)) (r .passed .way-boards),
     )
 
--- what is read is well-formed
-pub read-wellFormed : (ws : List ℕ) (s : Sheet) → read ws ≡ good s → WellFormed s
-unfolding read relationLines kindLines
-read-wellFormed ws s e = lines (next-out (relationLines ws) ruled s third)
+-- what a good description passed, and what its sections come to
+pub record ReadParts (ws : List ℕ) (s : Sheet) : Type 0 where
+  pub numbers : InRange ws
+  pub places : Placed ws
+  pub boards : getD ws 0 0 ≡ s .boards
+  pub lines : relationLines ws ≡ good (s .lines)
+  pub kinds : kindLines ws ≡ good (s .kinds)
+  pub arity : OneArity (s .kinds)
+
+pub read-parts : (ws : List ℕ) (s : Sheet) → read ws ≡ good s → ReadParts ws s
+unfolding read
+read-parts ws s e =
+    let (ls, d, g) = next-out (relationLines ws) ruled s third in
+    let (ks, k, h) = next-out (next (kindLines ws) agreed) (λ ks. good (sheet ls ks)) s g in
+    let (js, a, b) = next-out (kindLines ws) agreed ks k in
+    let same : sheet ls ks ≡ s = cc in
+    let (all, one) = agreed-out js ks b in
+    subst (ReadParts ws) same
+    (record {
+      numbers = numbers-out ws (need-test 1 (numbersFit ws) (need 2 (offsetsFit ws) (next (relationLines ws) ruled)) s e);
+      places = places-out ws (need-test 2 (offsetsFit ws) (next (relationLines ws) ruled) s second);
+      boards = refl;
+      lines = d;
+      kinds = a ∙ ap good all;
+      arity = subst OneArity all one;
+    })
   where
     sheet : List RelationLine → List KindLine → Sheet
     sheet ls ks = record { boards = getD ws 0 0; lines = ls; kinds = ks }
 
     ruled : List RelationLine → Reading Sheet
-    ruled ls = next (kindLines ws) (λ ks. good (sheet ls ks))
+    ruled ls = next (next (kindLines ws) agreed) (λ ks. good (sheet ls ks))
 
     second : need 2 (offsetsFit ws) (next (relationLines ws) ruled) ≡ good s
     second = need-rest 1 (numbersFit ws) (need 2 (offsetsFit ws) (next (relationLines ws) ruled)) s e
@@ -78,88 +105,45 @@ read-wellFormed ws s e = lines (next-out (relationLines ws) ruled s third)
     third : next (relationLines ws) ruled ≡ good s
     third = need-rest 2 (offsetsFit ws) (next (relationLines ws) ruled) s second
 
-    fit : T (numbersFit ws)
-    fit = need-test 1 (numbersFit ws) (need 2 (offsetsFit ws) (next (relationLines ws) ruled)) s e
-
-    numbers : InRange ws
-    numbers = numbers-out ws fit
-
-    kinds : (ls : List RelationLine) → (length ls ≡ getD ws 1 0) × All (Relation (getD ws 0 0)) ls
-        → (ks : List KindLine) × (kindLines ws ≡ good ks) × (good (sheet ls ks) ≡ good s) → WellFormed s
-    kinds ls a m =
-        let b : (length (m .0) ≡ getD ws 2 0) × All (Kind (getD ws 0 0)) (m .0) =
-        section-out (kindLine (getD ws 0 0)) (Kind (getD ws 0 0)) (kindLine-out (getD ws 0 0)) (getD ws 2 0) _ (m .0) (m .1) in
-        let g : good (sheet ls (m .0)) ≡ good s = m .2 in
-        let d : sheet ls (m .0) ≡ s = cc in
-        let n : length ls ≡ getD ws 1 0 = a .0 in
-        let k : length (m .0) ≡ getD ws 2 0 = b .0 in
-        subst WellFormed d
-        (record {
-          boards = (numbers .some, numbers .boards);
-          lines = (omega (arith, numbers .lines), a .1);
-          kinds = (omega (arith, numbers .kinds), b .1);
-        })
-
-    lines : (ls : List RelationLine) × (relationLines ws ≡ good ls) × (ruled ls ≡ good s) → WellFormed s
-    lines m =
-        kinds (m .0)
-        (section-out (relationLine (getD ws 0 0)) (Relation (getD ws 0 0)) (relationLine-out (getD ws 0 0)) (getD ws 1 0) _ (m .0) (m .1))
-        (next-out (kindLines ws) (λ ks. good (sheet (m .0) ks)) s (m .2))
+-- what is read is well-formed
+pub read-wellFormed : (ws : List ℕ) (s : Sheet) → read ws ≡ good s → WellFormed s
+unfolding relationLines kindLines
+read-wellFormed ws s e =
+    let r = read-parts ws s e in
+    let v = getD ws 0 0 in
+    let (m, a) = section-out (relationLine v) (Relation v) (relationLine-out v) (getD ws 1 0) _ (s .lines) (r .lines) in
+    let (n, b) = section-out (kindLine v) (Kind v) (kindLine-out v) (getD ws 2 0) _ (s .kinds) (r .kinds) in
+    record {
+      boards = (omega (arith, r .numbers .some, r .boards), omega (arith, r .numbers .boards, r .boards));
+      lines = (omega (arith, r .numbers .lines, m), subst (λ (n : ℕ). All (Relation n) (s .lines)) (r .boards) a);
+      kinds = (omega (arith, r .numbers .kinds, n), subst (λ (n : ℕ). All (Kind n) (s .kinds)) (r .boards) b);
+      arity = r .arity;
+    }
 
 -- ---- the numbers of refusals
 
--- a refusal has a number from 1 to 5
-abbrev Numbered : {X : Type 0} → Reading X → Type 0
-Numbered (good x) = Unit {0}
-Numbered (refused n) = (1 ≤ n) × (n ≤ 5)
-
-need-numbered : {X : Type 0} (n : ℕ) (b : Bool) (r : Reading X) → (1 ≤ n) × (n ≤ 5) → Numbered r → Numbered (need n b r)
-need-numbered n true r h g = g
-need-numbered n false r h g = h
-
-next-numbered : {X Y : Type 0} (r : Reading Y) (f : Y → Reading X) → Numbered r → ((y : Y) → Numbered (f y)) → Numbered (next r f)
-next-numbered (good y) f h g = g y
-next-numbered (refused n) f h g = h
-
-meaning-numbered : (v : Value) → Numbered (meaning v)
-meaning-numbered (value x []) = tt
-meaning-numbered (value x (w ∷ ws)) = omega arith
-meaning-numbered malformed = omega arith
-
-section-numbered : {X : Type 0} (line : List ℕ → Reading (Front X)) → ((ws : List ℕ) → Numbered (line ws)) → (n : ℕ) (ws : List ℕ)
-    → Numbered (section line n ws)
-unfolding section
-section-numbered line h zero [] = tt
-section-numbered line h zero (w ∷ ws) = omega arith
-section-numbered line h (suc n) ws =
-    next-numbered (line ws) (λ l. next (section line n (l .rest)) (λ ls. good (l .line ∷ ls))) (h ws)
-    (λ l. next-numbered (section line n (l .rest)) (λ ls. good (l .line ∷ ls)) (section-numbered line h n (l .rest)) (λ ls. tt))
-
-relationLine-numbered : (v : ℕ) (ws : List ℕ) → Numbered (relationLine v ws)
-unfolding relationLine
-relationLine-numbered v [] = omega arith
-relationLine-numbered v (p ∷ []) = omega arith
-relationLine-numbered v (p ∷ q ∷ []) = omega arith
-relationLine-numbered v (p ∷ q ∷ n ∷ ws) =
-    need-numbered 3 (leb 1 n && leb n mostExpressionWords && leb n (length ws)) _ (omega arith)
-    (need-numbered 4 (ltb p v && ltb q v) _ (omega arith)
-    (next-numbered (meaning (expression (take n ws))) _ (meaning-numbered (expression (take n ws))) (λ x. tt)))
-
-kindLine-numbered : (v : ℕ) (ws : List ℕ) → Numbered (kindLine v ws)
-unfolding kindLine
-kindLine-numbered v [] = omega arith
-kindLine-numbered v (p ∷ []) = omega arith
-kindLine-numbered v (p ∷ c ∷ []) = omega arith
-kindLine-numbered v (p ∷ c ∷ n ∷ ws) =
-    need-numbered 3 (leb n mostWays && leb n (length ws)) _ (omega arith)
-    (need-numbered 4 (ltb p v && boardsOnly v (take n ws)) (good _) (omega arith) tt)
-
--- reading refuses with 1 to 5 only
-pub read-numbered : (ws : List ℕ) (n : ℕ) → read ws ≡ refused n → (1 ≤ n) × (n ≤ 5)
+-- reading refuses with 1 to 5 and 11 only
+pub read-numbered : (ws : List ℕ) (n : ℕ) → read ws ≡ refused n → T (refusesDescription n)
 unfolding read relationLines kindLines
 read-numbered ws n e =
-    subst Numbered e
-    (need-numbered 1 (numbersFit ws) _ (omega arith)
-    (need-numbered 2 (offsetsFit ws) _ (omega arith)
-    (next-numbered (relationLines ws) _ (section-numbered (relationLine (getD ws 0 0)) (relationLine-numbered (getD ws 0 0)) (getD ws 1 0) _)
-    (λ ls. next-numbered (kindLines ws) _ (section-numbered (kindLine (getD ws 0 0)) (kindLine-numbered (getD ws 0 0)) (getD ws 2 0) _) (λ ks. tt)))))
+    subst (Only P) e
+    (only-need P 1 (numbersFit ws) _ tt
+    (only-need P 2 (offsetsFit ws) _ tt
+    (only-next P (relationLines ws) _ (only-relations P tt tt tt (getD ws 0 0) (getD ws 1 0) _)
+    (λ ls. only-next P (next (kindLines ws) agreed) _
+    (only-next P (kindLines ws) agreed (only-kinds P tt tt (getD ws 0 0) (getD ws 2 0) _) (only-agreed P tt)) (λ ks. tt)))))
+  where
+    P : ℕ → Type 0
+    P m = T (refusesDescription m)
+
+-- so it is at least 1, and at most 11
+pub read-bounded : (ws : List ℕ) (n : ℕ) → read ws ≡ refused n → (1 ≤ n) × (n ≤ 11)
+read-bounded ws n e =
+    ⊎-elim (λ t. (leb→le 1 n (T-and-left (leb 1 n) (leb n 5) t), bound (leb→le n 5 (T-and-right (leb 1 n) (leb n 5) t))))
+    (λ t. eleven (eqb→eq n 11 t)) (T-or (leb 1 n && leb n 5) (eqb n 11) (read-numbered ws n e))
+  where
+    bound : n ≤ 5 → n ≤ 11
+    bound h = omega arith
+
+    eleven : n ≡ 11 → (1 ≤ n) × (n ≤ 11)
+    eleven h = (omega arith, omega arith)

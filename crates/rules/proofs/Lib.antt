@@ -14,6 +14,8 @@ pub mod Stages
 pub mod Parts
 pub mod Expressions
 pub mod Readings
+pub mod Refusals
+pub mod Arities
 pub mod Headers
 pub mod Lines
 pub mod Walks

@@ -1,6 +1,6 @@
 -- What holds of each member of a list that is made from other lists. Assumes nothing.
 use mathlib.Core.Path.{_≡_, refl, sym, subst}
-use mathlib.Core.Bool.{Bool, true, false}
+use mathlib.Core.Bool.{Bool, true, false, _||_}
 use mathlib.Core.Logic.{_⊎_, inl, inr, ⊎-elim}
 use mathlib.Core.List.{List, [], _∷_, _++_, map, flatMap, List·Memᴰ, List·Memᴰ·head, List·Memᴰ·tail, List·Memᴰ·not-nil, List·Memᴰ·cases-cons, List·Memᴰ·append-cases, List·Memᴰ·eq-of-singleton, Memᴰ·append-left, Memᴰ·append-right}
 use Prim.Native.Nat.{ℕ, zero, suc, _+_, _≤_, _<_}
@@ -76,6 +76,20 @@ module _ {A : Type 0} (f : A → Bool) where
           → (x : A) × List·Memᴰ x (a ∷ xs) × T (f x)
       go true e t h = (a, List·Memᴰ·head refl, true-T e)
       go false e t h = let r = h t in (r .0, List·Memᴰ·tail (r .1), r .2)
+
+  -- one element more
+  pub some-of-more : (xs : List A) (x : A) → someOf f (xs ++ (x ∷ [])) ≡ (someOf f xs || f x)
+  some-of-more [] x = go (f x)
+    where
+      go : (b : Bool) → elim b [ true ↦ true | false ↦ false ] ≡ b
+      go true = refl
+      go false = refl
+  some-of-more (a ∷ xs) x = go (f a) (some-of-more xs x)
+    where
+      go : (b : Bool) → someOf f (xs ++ (x ∷ [])) ≡ (someOf f xs || f x)
+          → elim b [ true ↦ true | false ↦ someOf f (xs ++ (x ∷ [])) ] ≡ (elim b [ true ↦ true | false ↦ someOf f xs ] || f x)
+      go true e = refl
+      go false e = e
 
   pub some-of-in : (xs : List A) (x : A) → List·Memᴰ x xs → T (f x) → T (someOf f xs)
   some-of-in [] x m t = absurd (List·Memᴰ·not-nil m)

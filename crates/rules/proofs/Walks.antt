@@ -9,6 +9,7 @@ use lib.Seq.{drop-drop}
 use Rattle.rules.specs.Descriptions.{Reading, good, refused, Front, next, section}
 use Rattle.rules.proofs.Parts.{Suffix}
 use Rattle.rules.proofs.Tests.{clash}
+use Rattle.rules.proofs.Readings.{next-out}
 
 module _ {X : Type 0} where
   -- the lines passed, and then those that are read
@@ -24,6 +25,16 @@ module _ {X : Type 0} where
   unfolding past
   past-one done x (good ls) = ap good (sym (append-assoc done (x ∷ []) ls))
   past-one done x (refused n) = refl
+
+  -- a section of some lines begins with a line, and it is the first of them
+  pub section-met : (line : List ℕ → Reading (Front X)) (n : ℕ) → 0 < n → (us : List ℕ) (xs : List X) → section line n us ≡ good xs
+      → (g : Front X) × (line us ≡ good g) × (ls : List X) × (xs ≡ g .line ∷ ls)
+  unfolding section
+  section-met line zero h us xs e = let z : ⊥ = omega arith in absurd z
+  section-met line (suc n) h us xs e =
+      let (g, d, f) = next-out (line us) _ xs e in
+      let (ls, a, b) = next-out (section line n (g .rest)) _ xs f in
+      (g, d, ls, cc)
 
   module _ (line : List ℕ → Reading (Front X)) (count : ℕ) (ws : List ℕ) where
     -- at the word `at`, with `left` lines to go

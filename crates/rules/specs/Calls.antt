@@ -30,7 +30,7 @@ module _ {L : Type 0} where
 unfoldable pub wellFormed : ℕ → List ℕ → Bool
 wellFormed v t = eqb (length t) (v * v) && eachOf (λ x. ltb x setLimit) t
 
--- the description that is meant, once 1 to 5 and then 6 have been looked for
+-- the description that is meant, once 1 to 5, then 11 and then 6 have been looked for
 unfoldable pub admitted : List ℕ → List ℕ → Reading Sheet
 admitted ws t = next (read ws) (λ s. need 6 (wellFormed (s .boards) t) (good s))
 
@@ -39,7 +39,7 @@ abbrev pub given : {X L : Type 0} → Reading X → L → (X → Outcome L) → 
 given (good x) l f = f x
 given (refused n) l f = refuse n 0 l
 
--- reading: 0 to 5
+-- reading: 0, 1 to 5, or 11
 unfoldable pub reading : List ℕ → ℕ
 reading ws = elim (read ws) [ good s ↦ 0 | refused n ↦ n ]
 

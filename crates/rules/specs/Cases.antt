@@ -6,7 +6,7 @@ use Prim.Native.Nat.{ℕ}
 use lib.ListN.{length, replicate}
 use Rattle.rules.specs.Relations.{same, above, below, side, compose}
 use Rattle.rules.specs.Expressions.{value, expression}
-use Rattle.rules.specs.Descriptions.{describe}
+use Rattle.rules.specs.Descriptions.{KindLine, firstDisagreeing, describe}
 use Rattle.rules.specs.Tables.{filled}
 use Rattle.rules.specs.Search.{plainOrder}
 use Rattle.rules.specs.Calls.{refuse, succeed, reading, close, searching, check}
@@ -18,6 +18,10 @@ pub data Case : Type 0 where
   means : (words : List ℕ) (x : ℕ) → Case
   -- the reader answers this number: 0, or the refusal
   answers : (words : List ℕ) (number : ℕ) → Case
+  -- of these kind lines, line n is the first that disagrees with an earlier one
+  disagreesFirst : (lines : List KindLine) (n : ℕ) → Case
+  -- closing, searching with this budget and checking refuse this description and table with this number, and leave the table
+  refuses : (words table : List ℕ) (budget number : ℕ) → Case
   -- closing the full table strikes so many relations and leaves this table
   closes : (v : ℕ) (lines kinds : List (List ℕ)) (struck : ℕ) (table : List ℕ) → Case
   -- the full table closes to a contradiction
@@ -37,6 +41,8 @@ abbrev pub CaseHolds : Case → Type 0
 CaseHolds (composes x y z) = compose x y ≡ z
 CaseHolds (means ws x) = expression ws ≡ value x []
 CaseHolds (answers ws n) = reading ws ≡ n
+CaseHolds (disagreesFirst ks n) = firstDisagreeing [] ks ≡ n
+CaseHolds (refuses ws t b n) = close ws t ∷ searching plainOrder ws t b ∷ check ws t ∷ [] ≡ replicate 3 (refuse n 0 t)
 CaseHolds (closes v ls ks n u) = close (describe v ls ks) (filled v) ≡ succeed n u
 CaseHolds (clashes v ls ks) = close (describe v ls ks) (filled v) ≡ refuse 7 0 (filled v)
 CaseHolds (finds v ls ks n u) = searching plainOrder (describe v ls ks) (filled v) n ≡ succeed n u
@@ -51,7 +57,7 @@ pub data AllHold : List Case → Type 0 where
   done : AllHold []
   _also_ : {c : Case} {cs : List Case} → CaseHolds c → AllHold cs → AllHold (c ∷ cs)
 
--- relation lines: one relation, either of two, "at or above", "not below"; and a kind line of code 7
+-- relation lines: one relation, either of two, "at or above", "not below"; and kind lines, of any code and of code 7
 abbrev pub is : ℕ → ℕ → ℕ → List ℕ
 is p r q = p ∷ q ∷ 1 ∷ r ∷ []
 
@@ -64,8 +70,15 @@ atOrAbove p q = either p same above q
 abbrev pub notBelow : ℕ → ℕ → List ℕ
 notBelow p q = p ∷ q ∷ 2 ∷ 6 ∷ below ∷ []
 
+abbrev pub feedsAs : ℕ → ℕ → List ℕ → List ℕ
+feedsAs code p ways = p ∷ code ∷ length ways ∷ ways
+
 abbrev pub feeds : ℕ → List ℕ → List ℕ
-feeds p ways = p ∷ 7 ∷ length ways ∷ ways
+feeds p ways = feedsAs 7 p ways
+
+-- a kind line of this code with so many ways, all of them board 0
+abbrev pub panelOf : ℕ → ℕ → KindLine
+panelOf code n = record { p = 0; code = code; ways = replicate n 0 }
 
 abbrev pub cases : List Case
 cases =
@@ -141,6 +154,34 @@ cases =
     ∷ answers (describe 1 ((1 ∷ 0 ∷ 1 ∷ 8 ∷ []) ∷ []) []) 4
     -- the first faulty line decides: a 5 in line 0 comes before a 3 in line 1
     ∷ answers (describe 1 ((0 ∷ 0 ∷ 1 ∷ 8 ∷ []) ∷ (0 ∷ 0 ∷ 0 ∷ []) ∷ []) []) 5
+    -- One kind code means one number of ways (02, request 2). Two lines of one code with 1 and 2 ways are refused with 11, as are those with none and 1
+    ∷ answers (describe 2 [] (feeds 0 (1 ∷ []) ∷ feeds 1 (0 ∷ 0 ∷ []) ∷ [])) 11
+    ∷ answers (describe 2 [] (feeds 0 [] ∷ feeds 1 (0 ∷ []) ∷ [])) 11
+    -- of two codes they are good, and so are two of one code with as many ways, other ones or the same
+    ∷ answers (describe 2 [] (feeds 0 (1 ∷ []) ∷ feedsAs 8 1 (0 ∷ 0 ∷ []) ∷ [])) 0
+    ∷ answers (describe 2 [] (feeds 0 (1 ∷ []) ∷ feeds 1 (0 ∷ []) ∷ [])) 0
+    -- a line of another code may stand between the two
+    ∷ answers (describe 2 [] (feeds 0 (1 ∷ []) ∷ feedsAs 8 0 (1 ∷ []) ∷ feeds 1 (0 ∷ 0 ∷ []) ∷ [])) 11
+    -- the first line that disagrees counts: line 1 of 1, 2 and 3 ways, line 2 of 1, 1 and 2, line 2 where line 1 has another code; of 1 and 1 there is none
+    ∷ disagreesFirst (panelOf 7 1 ∷ panelOf 7 2 ∷ panelOf 7 3 ∷ []) 1
+    ∷ disagreesFirst (panelOf 7 1 ∷ panelOf 7 1 ∷ panelOf 7 2 ∷ []) 2
+    ∷ disagreesFirst (panelOf 7 1 ∷ panelOf 8 2 ∷ panelOf 7 2 ∷ []) 2
+    ∷ disagreesFirst (panelOf 7 1 ∷ panelOf 7 1 ∷ []) 2
+    -- 11 comes after 1 and 2,
+    ∷ answers (describe 17 [] (feeds 0 (1 ∷ []) ∷ feeds 1 (0 ∷ 0 ∷ []) ∷ [])) 1
+    ∷ answers (describe 2 [] (feeds 0 (1 ∷ []) ∷ feeds 1 (0 ∷ 0 ∷ []) ∷ []) ++ (0 ∷ [])) 2
+    -- after a 3, a 4 or a 5 in a relation line, after a 3 or a 4 in a later kind line, and after words left over
+    ∷ answers (describe 2 ((0 ∷ 0 ∷ 0 ∷ []) ∷ []) (feeds 0 (1 ∷ []) ∷ feeds 1 (0 ∷ 0 ∷ []) ∷ [])) 3
+    ∷ answers (describe 2 (is 0 same 2 ∷ []) (feeds 0 (1 ∷ []) ∷ feeds 1 (0 ∷ 0 ∷ []) ∷ [])) 4
+    ∷ answers (describe 2 ((0 ∷ 0 ∷ 1 ∷ 8 ∷ []) ∷ []) (feeds 0 (1 ∷ []) ∷ feeds 1 (0 ∷ 0 ∷ []) ∷ [])) 5
+    ∷ answers (describe 2 [] (feeds 0 (1 ∷ []) ∷ feeds 1 (0 ∷ 0 ∷ []) ∷ feedsAs 8 0 (replicate 9 1) ∷ [])) 3
+    ∷ answers (describe 2 [] (feeds 0 (1 ∷ []) ∷ feeds 1 (0 ∷ 0 ∷ []) ∷ feedsAs 8 2 [] ∷ [])) 4
+    ∷ answers (2 ∷ 0 ∷ 2 ∷ 6 ∷ 6 ∷ 16 ∷ 0 ∷ 7 ∷ 1 ∷ 1 ∷ 1 ∷ 7 ∷ 2 ∷ 0 ∷ 0 ∷ 0 ∷ []) 3
+    -- and before 6, and so before all that follows it
+    ∷ refuses (describe 2 [] (feeds 0 (1 ∷ []) ∷ feeds 1 (0 ∷ 0 ∷ []) ∷ [])) (15 ∷ []) 0 11
+    ∷ refuses (describe 2 [] (feeds 0 (1 ∷ []) ∷ feeds 1 (0 ∷ 0 ∷ []) ∷ [])) (filled 2) 0 11
+    -- a table of one cell for two boards is refused with 6 where no line disagrees
+    ∷ refuses (describe 2 [] (feeds 0 (1 ∷ []) ∷ feeds 1 (0 ∷ []) ∷ [])) (15 ∷ []) 0 6
     ∷ []
 
 -- Larger sites, which take longer to compute.

@@ -1,11 +1,12 @@
--- Descriptions (01, 'The description' and 'Refusal numbers' 1 to 5): the meaning of a run of words, or its first refusal.
+-- Descriptions (01, 'The description' and 'Refusal numbers' 1 to 5; 02, request 2: 11): the meaning of a run of words, or its first refusal.
 -- Assumes nothing.
-use mathlib.Core.Bool.{Bool, true, false, _&&_}
+use mathlib.Core.Path.{_≡_}
+use mathlib.Core.Bool.{Bool, true, false, not, _&&_, _||_}
 use mathlib.Core.List.{List, [], _∷_, _++_, flatten, List·Memᴰ}
 use Prim.Native.Nat.{ℕ, zero, suc, _+_, _-_, _*_, _/_, _≤_, _<_}
 use lib.Dec.{leb, ltb, eqb}
 use lib.ListN.{length, getD, take, drop}
-use Rattle.rules.specs.Relations.{eachOf}
+use Rattle.rules.specs.Relations.{someOf, eachOf}
 use Rattle.rules.specs.Expressions.{Value, value, malformed, expression}
 
 -- the most boards, relation lines, kind lines, words of an expression and ways
@@ -125,12 +126,36 @@ relationLines ws = section (relationLine (getD ws 0 0)) (getD ws 1 0) (take (get
 unfoldable pub kindLines : List ℕ → Reading (List KindLine)
 kindLines ws = section (kindLine (getD ws 0 0)) (getD ws 2 0) (drop (getD ws 4 0) ws)
 
--- The meaning of a description, or its first refusal: 1, 2, then the first faulty line.
+-- One kind code means one number of ways. A kind line disagrees with one that has its code and another number of ways;
+unfoldable pub disagrees : KindLine → KindLine → Bool
+disagrees k l = eqb (k .code) (l .code) && not (eqb (length (k .ways)) (length (l .ways)))
+
+-- the number, from 0, of the first line that disagrees with an earlier one, where these come before them all; or how many lines there are.
+unfoldable pub firstDisagreeing : List KindLine → List KindLine → ℕ
+firstDisagreeing earlier [] = 0
+firstDisagreeing earlier (k ∷ ks) = elim (someOf (disagrees k) earlier) [ true ↦ 0 | false ↦ suc (firstDisagreeing (earlier ++ (k ∷ [])) ks) ]
+
+-- 11 is for the first kind line that disagrees with an earlier one.
+unfoldable pub agreed : List KindLine → Reading (List KindLine)
+agreed ks = need 11 (eqb (firstDisagreeing [] ks) (length ks)) (good ks)
+
+-- The meaning of a description, or its first refusal: 1, 2, then the first faulty line, then 11.
 unfoldable pub read : List ℕ → Reading Sheet
 read ws =
     need 1 (numbersFit ws)
     (need 2 (offsetsFit ws)
-    (next (relationLines ws) (λ ls. next (kindLines ws) (λ ks. good (record { boards = getD ws 0 0; lines = ls; kinds = ks })))))
+    (next (relationLines ws) (λ ls. next (next (kindLines ws) agreed) (λ ks. good (record { boards = getD ws 0 0; lines = ls; kinds = ks })))))
+
+-- the numbers that a description is refused with: 1 to 5, and 11
+abbrev pub refusesDescription : ℕ → Bool
+refusesDescription n = (leb 1 n && leb n 5) || eqb n 11
+
+-- two kind lines have as many ways if they have one code; so have any two of these
+abbrev pub SameArity : KindLine → KindLine → Type 0
+SameArity k l = k .code ≡ l .code → length (k .ways) ≡ length (l .ways)
+
+abbrev pub OneArity : List KindLine → Type 0
+OneArity ks = (k l : KindLine) → List·Memᴰ k ks → List·Memᴰ l ks → SameArity k l
 
 -- what the words of a good description come to
 pub record WellFormed (s : Sheet) : Type 0 where
@@ -138,6 +163,7 @@ pub record WellFormed (s : Sheet) : Type 0 where
   pub lines : (length (s .lines) ≤ mostLines) × ((l : RelationLine) → List·Memᴰ l (s .lines) → (l .p < s .boards) × (l .q < s .boards))
   pub kinds : (length (s .kinds) ≤ mostKinds) × ((k : KindLine) → List·Memᴰ k (s .kinds)
       → (k .p < s .boards) × (length (k .ways) ≤ mostWays) × ((i : ℕ) → i < length (k .ways) → getD (k .ways) i 0 < s .boards))
+  pub arity : OneArity (s .kinds)
 
 -- the words of a description of v boards with these relation lines and kind lines
 abbrev pub describe : ℕ → List (List ℕ) → List (List ℕ) → List ℕ

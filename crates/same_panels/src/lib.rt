@@ -2,7 +2,7 @@
 ghost use mathlib.Core.Path.{_≡_};
 ghost use Prim.Native.Nat.{_≤_, _<_};
 ghost use lib.ListN.{length};
-ghost use Rattle.rules.specs.Descriptions.{mostBoards};
+ghost use Rattle.rules.specs.Descriptions.{mostBoards, SameArity};
 ghost use Rattle.rules.specs.Closing.{rule7};
 ghost use Rattle.passes.specs.Passes.{Ready, Pass, Quiet};
 ghost use Rattle.kinds.specs.Lines.{lineAt, StandsIn};
@@ -45,9 +45,9 @@ fn match_ways(v: usize, ways: &[u16], others: &[u16], cells: &mut [u8]) -> u32
     struck
 }
 
-// Rule 7 of two kind lines: if their panels are the same, code, number of ways and ways agree.
+// Rule 7 of two kind lines: if their panels are the same, code and ways agree. Lines of one code have as many ways.
 pub fn rule7(v: usize, words: &[u16], line: KindLine, other: KindLine, cells: &mut [u8]) -> u32
-    requires { ⌜ Ready v (now cells) × StandsIn v (now words) line × StandsIn v (now words) other ⌝ }
+    requires { ⌜ Ready v (now cells) × StandsIn v (now words) line × StandsIn v (now words) other × SameArity (lineAt (now words) line) (lineAt (now words) other) ⌝ }
     ensures { λ n. ⌜ Pass (Quiet v) v (rule7 v (lineAt (now (words .entry)) line) (lineAt (now (words .entry)) other)) (now (cells .entry)) 0 (now (cells .exit)) n ⌝ }
 {
     let k = v * line.p + other.p;
@@ -61,10 +61,7 @@ pub fn rule7(v: usize, words: &[u16], line: KindLine, other: KindLine, cells: &m
     let other_first = other.first;
     let other_end = other.end;
     let others = &words[other_first..other_end];
-    if line.code != other.code
-        || ways.len() != others.len()
-        || !ways_match(v, ways, others, cells)
-    {
+    if line.code != other.code || !ways_match(v, ways, others, cells) {
         return tables::narrow(cells, k, relations::NOT_SAME);
     }
     if x != relations::E {

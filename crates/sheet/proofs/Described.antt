@@ -1,18 +1,18 @@
 -- What is known of a description that was read to its end: what it means, and where its sections stand. Assumes nothing.
 use mathlib.Core.Path.{_≡_, refl, sym, ap, _∙_, subst}
-use mathlib.Core.Bool.{Bool, true, false}
 use mathlib.Core.List.{List}
 use Prim.Native.Nat.{ℕ, _-_, _≤_}
 use lib.ListN.{length, getD, take, drop}
-use Rattle.rules.specs.Descriptions.{mostBoards, RelationLine, KindLine, Sheet, Reading, good, refused, need, next, relationLine, kindLine, section, numbersFit, offsetsFit, relationLines, kindLines, read}
-use Rattle.rules.proofs.Tests.{clash, true-T}
+use Rattle.rules.specs.Descriptions.{mostBoards, Sheet, Reading, good, refused, relationLine, kindLine, section, relationLines, kindLines, read, OneArity}
+use Rattle.rules.proofs.Tests.{clash}
 use Rattle.rules.proofs.Parts.{tail}
-use Rattle.rules.proofs.Headers.{numbers-out, places-out}
+use Rattle.rules.proofs.Descriptions.{read-parts, read-wellFormed}
 use Rattle.answers.specs.declared.refusals.Refusal.{Refusal}
 use Rattle.headers.specs.declared.Header.{Header}
 use Rattle.headers.specs.declared.HeaderFound.the-variants.{Good, Refused}
 use Rattle.answers.specs.Answers.{refusal}
 use Rattle.headers.specs.Found.{numbers, numbersFound}
+use Rattle.kinds.specs.Sections.{HasAgreed}
 use Rattle.sheet.specs.Found.{descriptionFound}
 
 -- the words mean s, and its header is h
@@ -26,41 +26,26 @@ pub record Described (ws : List ℕ) (h : Header) (s : Sheet) : Type 0 where
   pub kinds : section (kindLine (h .boards)) (h .kinds .count) (take (length ws - h .kinds .at) (drop (h .kinds .at) ws)) ≡ good (s .kinds)
 
 module _ (ws : List ℕ) where
-  -- the description by its two tests and its two sections
-  by-parts : Bool → Bool → Reading (List RelationLine) → Reading (List KindLine) → Reading Sheet
-  by-parts a b r q = need 1 a (need 2 b (next r (λ ls. next q (λ ks. good (record { boards = getD ws 0 0; lines = ls; kinds = ks })))))
-
-  numbered : (ls : List RelationLine) (ks : List KindLine) → read ws ≡ good (record { boards = getD ws 0 0; lines = ls; kinds = ks }) → numbersFit ws ≡ true
-      → offsetsFit ws ≡ true → relationLines ws ≡ good ls → kindLines ws ≡ good ks
-      → Described ws (numbers ws) (record { boards = getD ws 0 0; lines = ls; kinds = ks })
+  numbered : (s : Sheet) → read ws ≡ good s → Described ws (numbers ws) s
   unfolding relationLines kindLines
-  numbered ls ks m n o f g =
-      let placed = places-out ws (true-T o) in
+  numbered s e =
+      let r = read-parts ws s e in
       record {
-        means = m;
-        boards = refl;
-        few = numbers-out ws (true-T n) .boards;
-        after = placed .after;
-        within = subst (λ (k : ℕ). getD ws 4 0 ≤ k) (placed .total) (placed .before);
-        lines = f;
-        kinds = ap (section (kindLine (getD ws 0 0)) (getD ws 2 0)) (tail (getD ws 4 0) ws) ∙ g;
+        means = e;
+        boards = r .boards;
+        few = r .numbers .boards;
+        after = r .places .after;
+        within = subst (λ (k : ℕ). getD ws 4 0 ≤ k) (r .places .total) (r .places .before);
+        lines = r .lines;
+        kinds = ap (section (kindLine (getD ws 0 0)) (getD ws 2 0)) (tail (getD ws 4 0) ws) ∙ r .kinds;
       }
 
   pub described : (h : Header) → Good h ≡ descriptionFound ws → (s : Sheet) × Described ws h s
-  unfolding read by-parts
-  described h p = go (numbersFit ws) (offsetsFit ws) (relationLines ws) (kindLines ws) refl refl refl refl p
+  described h p = go (read ws) refl p
     where
-      go : (a b : Bool) (r : Reading (List RelationLine)) (q : Reading (List KindLine)) → numbersFit ws ≡ a → offsetsFit ws ≡ b → relationLines ws ≡ r
-          → kindLines ws ≡ q → Good h ≡ numbersFound ws (by-parts a b r q) → (s : Sheet) × Described ws h s
-      go true true (good ls) (good ks) d e f g p =
-          let i : h ≡ numbers ws = cc in (
-            record { boards = getD ws 0 0; lines = ls; kinds = ks },
-            subst (λ (j : Header). Described ws j (record { boards = getD ws 0 0; lines = ls; kinds = ks })) (sym i) (numbered ls ks (rw (d, e, f, g) refl) d e f g),
-          )
-      go true true (good ls) (refused n) d e f g p = clash (cc)
-      go true true (refused n) q d e f g p = clash (cc)
-      go true false r q d e f g p = clash (cc)
-      go false b r q d e f g p = clash (cc)
+      go : (r : Reading Sheet) → read ws ≡ r → Good h ≡ numbersFound ws r → (s : Sheet) × Described ws h s
+      go (good s) e p = let i : h ≡ numbers ws = cc in (s, subst (λ (j : Header). Described ws j s) (sym i) (numbered s e))
+      go (refused n) e p = clash (cc)
 
   -- a description that was refused
   pub undescribed : (q : Refusal) → Refused q ≡ descriptionFound ws → read ws ≡ refused (q .number)
@@ -73,3 +58,14 @@ module _ (ws : List ℕ) where
 -- words mean one description
 pub described-one : {ws : List ℕ} {h : Header} {s u : Sheet} → Described ws h s → read ws ≡ good u → s ≡ u
 described-one d e = let m = d .means in cc
+
+-- the kind lines of one code have as many ways
+pub described-agreed : {ws : List ℕ} {h : Header} {s : Sheet} → Described ws h s
+    → HasAgreed (h .boards) (h .kinds .count) (take (length ws - h .kinds .at) (drop (h .kinds .at) ws))
+described-agreed {ws} {h} {s} d = (
+  (s .kinds, d .kinds),
+  λ ks e.
+      let same : good (s .kinds) ≡ good ks = sym (d .kinds) ∙ e in
+      let one : s .kinds ≡ ks = cc in
+      subst OneArity one (read-wellFormed ws s (d .means) .arity),
+)

@@ -4,7 +4,7 @@ use mathlib.Core.Bool.{Bool, true, false}
 use mathlib.Core.List.{List}
 use Prim.Native.Nat.{ℕ, _-_, _≤_}
 use lib.ListN.{length, getD, take, drop}
-use Rattle.rules.specs.Descriptions.{RelationLine, KindLine, Sheet, Reading, good, refused, need, next, relationLine, kindLine, section, numbersFit, offsetsFit, relationLines, kindLines, read}
+use Rattle.rules.specs.Descriptions.{RelationLine, KindLine, Sheet, Reading, good, refused, need, next, relationLine, kindLine, section, numbersFit, offsetsFit, relationLines, kindLines, agreed, read}
 use Rattle.rules.specs.Calls.{reading}
 use Rattle.rules.proofs.Tests.{clash, true-T}
 use Rattle.rules.proofs.Parts.{tail}
@@ -20,9 +20,13 @@ use Rattle.sheet.proofs.Described.{described, undescribed}
 
 -- ---- the sections
 
+-- the kind lines, those of one code with as many ways
+abbrev pub agreed-kinds : List ℕ → Reading (List KindLine)
+agreed-kinds ws = next (kindLines ws) agreed
+
 -- the rest of a description, once its header is good
 abbrev pub lines-read : List ℕ → Reading Sheet
-lines-read ws = next (relationLines ws) (λ ls. next (kindLines ws) (λ ks. good (record { boards = getD ws 0 0; lines = ls; kinds = ks })))
+lines-read ws = next (relationLines ws) (λ ls. next (agreed-kinds ws) (λ ks. good (record { boards = getD ws 0 0; lines = ls; kinds = ks })))
 
 module _ (ws : List ℕ) where
   -- a header that is refused
@@ -67,19 +71,20 @@ module _ (ws : List ℕ) where
     relation-part s e =
         subst (λ (g : Header). s ≡ sectionFound (section (relationLine (g .boards)) (g .lines .count) (take (g .kinds .at - 6) (drop 6 ws)))) (good-header .is) e
 
-    pub kind-part : (s : SectionFound) → s ≡ sectionFound (section (kindLine (h .boards)) (h .kinds .count) (take (length ws - h .kinds .at) (drop (h .kinds .at) ws)))
-        → s ≡ sectionFound (kindLines ws)
+    pub kind-part : (s : SectionFound)
+        → s ≡ sectionFound (next (section (kindLine (h .boards)) (h .kinds .count) (take (length ws - h .kinds .at) (drop (h .kinds .at) ws))) agreed)
+        → s ≡ sectionFound (agreed-kinds ws)
     unfolding kindLines
     kind-part s e =
-        subst (λ (us : List ℕ). s ≡ sectionFound (section (kindLine (getD ws 0 0)) (getD ws 2 0) us)) (tail (getD ws 4 0) ws)
-        (subst (λ (g : Header). s ≡ sectionFound (section (kindLine (g .boards)) (g .kinds .count) (take (length ws - g .kinds .at) (drop (g .kinds .at) ws)))) (good-header .is) e)
+        subst (λ (us : List ℕ). s ≡ sectionFound (next (section (kindLine (getD ws 0 0)) (getD ws 2 0) us) agreed)) (tail (getD ws 4 0) ws)
+        (subst (λ (g : Header). s ≡ sectionFound (next (section (kindLine (g .boards)) (g .kinds .count) (take (length ws - g .kinds .at) (drop (g .kinds .at) ws))) agreed)) (good-header .is) e)
 
     -- the first section that is refused, or neither
     pub description-no-lines : (q : Refusal) → sections.Refused q ≡ sectionFound (relationLines ws) → Refused q ≡ descriptionFound ws
     description-no-lines q p = rw (good-header .rest) (go (relationLines ws) p)
       where
         go : (r : Reading (List RelationLine)) → sections.Refused q ≡ sectionFound r
-            → Refused q ≡ numbersFound {X = Sheet} ws (next r (λ ls. next (kindLines ws) (λ ks. good (record { boards = getD ws 0 0; lines = ls; kinds = ks }))))
+            → Refused q ≡ numbersFound {X = Sheet} ws (next r (λ ls. next (agreed-kinds ws) (λ ks. good (record { boards = getD ws 0 0; lines = ls; kinds = ks }))))
         go (good ls) e = clash (cc)
         go (refused n) e = cc
 
@@ -91,16 +96,16 @@ module _ (ws : List ℕ) where
           go (good ls) e = (ls, refl)
           go (refused n) e = clash (cc)
 
-      pub description-no-kinds : (q : Refusal) → sections.Refused q ≡ sectionFound (kindLines ws) → Refused q ≡ descriptionFound ws
-      description-no-kinds q p = rw (good-header .rest, after-lines .1) (go (kindLines ws) p)
+      pub description-no-kinds : (q : Refusal) → sections.Refused q ≡ sectionFound (agreed-kinds ws) → Refused q ≡ descriptionFound ws
+      description-no-kinds q p = rw (good-header .rest, after-lines .1) (go (agreed-kinds ws) p)
         where
           go : (r : Reading (List KindLine)) → sections.Refused q ≡ sectionFound r
               → Refused q ≡ numbersFound {X = Sheet} ws (next r (λ ks. good (record { boards = getD ws 0 0; lines = after-lines .0; kinds = ks })))
           go (good ls) e = clash (cc)
           go (refused n) e = cc
 
-      pub description-read : sections.Filled ≡ sectionFound (kindLines ws) → Good h ≡ descriptionFound ws
-      description-read p = rw (good-header .rest, after-lines .1) (go (kindLines ws) p)
+      pub description-read : sections.Filled ≡ sectionFound (agreed-kinds ws) → Good h ≡ descriptionFound ws
+      description-read p = rw (good-header .rest, after-lines .1) (go (agreed-kinds ws) p)
         where
           go : (r : Reading (List KindLine)) → sections.Filled ≡ sectionFound r
               → Good h ≡ numbersFound {X = Sheet} ws (next r (λ ks. good (record { boards = getD ws 0 0; lines = after-lines .0; kinds = ks })))

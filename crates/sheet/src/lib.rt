@@ -4,7 +4,7 @@ mod sections;
 ghost use mathlib.Core.Path.{_≡_};
 ghost use Rattle.sheet.specs.Found.{descriptionFound};
 use crate::sections::SectionFound;
-use crate::sections::kind_section;
+use crate::sections::agreed_section;
 use crate::sections::relation_section;
 use headers::HeaderFound;
 
@@ -26,7 +26,7 @@ pub fn description(words: &[u16]) -> HeaderFound
     if let SectionFound::Refused(r) = lines {
         return HeaderFound::Refused(r);
     }
-    let kinds = kind_section(boards, h.kinds.count, &words[kinds_at..]);
+    let kinds = agreed_section(boards, h.kinds.count, &words[kinds_at..]);
     if let SectionFound::Refused(r) = kinds {
         return HeaderFound::Refused(r);
     }

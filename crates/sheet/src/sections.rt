@@ -1,7 +1,8 @@
 // The two sections of lines, each filled exactly by its lines. Each has a loop of its own, which takes less time than one loop for both sorts of line.
 ghost use mathlib.Core.Path.{_≡_};
-ghost use Rattle.rules.specs.Descriptions.{relationLine, kindLine, section};
+ghost use Rattle.rules.specs.Descriptions.{next, relationLine, kindLine, section, agreed};
 ghost use Rattle.sheet.specs.Found.{sectionFound, endFound};
+use answers::refusals::DISAGREES;
 use answers::refusals::Refusal;
 use answers::refusals::UNFIT;
 use kind_lines::KindFound;
@@ -42,7 +43,7 @@ pub(crate) fn relation_section(v: usize, count: usize, words: &[u16]) -> Section
 }
 
 // Reads a section of `count` kind lines, for boards below v.
-pub(crate) fn kind_section(v: usize, count: usize, words: &[u16]) -> SectionFound
+fn kind_section(v: usize, count: usize, words: &[u16]) -> SectionFound
     ensures { λ r. ⌜ r ≡ sectionFound (section (kindLine v) count (now (words .entry))) ⌝ }
 {
     let mut at = 0;
@@ -56,4 +57,18 @@ pub(crate) fn kind_section(v: usize, count: usize, words: &[u16]) -> SectionFoun
         left -= 1;
     }
     ended(words.len() - at)
+}
+
+// Reads a section of `count` kind lines, for boards below v, and then looks for one that disagrees with an earlier one.
+pub(crate) fn agreed_section(v: usize, count: usize, words: &[u16]) -> SectionFound
+    ensures { λ r. ⌜ r ≡ sectionFound (next (section (kindLine v) count (now (words .entry))) agreed) ⌝ }
+{
+    let kinds = kind_section(v, count, words);
+    if let SectionFound::Refused(r) = kinds {
+        return SectionFound::Refused(r);
+    }
+    if arities::first_disagreeing(count, words) < count {
+        return SectionFound::Refused(Refusal { number: DISAGREES });
+    }
+    SectionFound::Filled
 }

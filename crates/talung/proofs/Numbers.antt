@@ -13,7 +13,7 @@ use Rattle.rules.specs.Closing.{closing}
 use Rattle.rules.specs.Search.{found, none, Capped, ended, ranOut, search, cap}
 use Rattle.rules.specs.Calls.{Outcome, refuse, succeed, wellFormed, admitted, given, reading, fresh, close, answer, searching, arranged, check}
 use Rattle.rules.proofs.Tests.{clash}
-use Rattle.rules.proofs.Descriptions.{read-numbered}
+use Rattle.rules.proofs.Descriptions.{read-bounded}
 use Rattle.talung.proofs.Packing.{mostNumber}
 
 abbrev Numbered : Outcome (List ℕ) → Type 0
@@ -33,7 +33,7 @@ admitted-numbered ws t n p = by (read ws) refl p
         formed : (b : Bool) → need 6 b (good s) ≡ refused n → n ≤ mostNumber
         formed true q = clash (cc)
         formed false q = let f : 6 ≡ n = cc in omega arith
-    by (refused m) e p = let f : m ≡ n = cc in omega (arith, read-numbered ws m e)
+    by (refused m) e p = let f : m ≡ n = cc in omega (arith, read-bounded ws m e)
 
 given-numbered : (ws t : List ℕ) (f : Sheet → Outcome (List ℕ)) → ((s : Sheet) → Numbered (f s)) → Numbered (given (admitted ws t) t f)
 given-numbered ws t f h = by (admitted ws t) refl
@@ -48,7 +48,7 @@ reading-numbered ws = by (read ws) refl
   where
     by : (r : Reading Sheet) → read ws ≡ r → elim r [ good s ↦ 0 | refused n ↦ n ] ≤ mostNumber
     by (good s) e = omega arith
-    by (refused n) e = omega (arith, read-numbered ws n e)
+    by (refused n) e = omega (arith, read-bounded ws n e)
 
 pub fresh-numbered : (v : ℕ) (t : List ℕ) → Numbered (fresh v t)
 unfolding fresh

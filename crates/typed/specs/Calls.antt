@@ -19,7 +19,7 @@ unfoldable pub inRoom : List ℕ → List ℕ → Outcome (List ℕ)
 inRoom xs room =
     elim (leb (length xs) (length room)) [ true ↦ succeed (length xs) (xs ++ drop (length xs) room) | false ↦ refuse 19 0 room ]
 
--- reading: 20 for the first malformed line, with its number; then 1 to 5 on the words made; then 19
+-- reading: 20 for the first malformed line, with its number; then 1 to 5, then 11, on the words made; then 19
 abbrev pub readTyped : Typed → List ℕ → Outcome (List ℕ)
 readTyped (malformedAt n) room = refuse 20 (min n mostCount) room
 readTyped (made ws) room = given (read ws) room (λ s. inRoom ws room)
@@ -27,6 +27,6 @@ readTyped (made ws) room = given (read ws) room (λ s. inRoom ws room)
 unfoldable pub fromText : List ℕ → List ℕ → Outcome (List ℕ)
 fromText text room = readTyped (typed text) room
 
--- writing: 1 to 5, then 19
+-- writing: 1 to 5, then 11, then 19
 unfoldable pub toText : List ℕ → List ℕ → Outcome (List ℕ)
 toText ws room = given (read ws) room (λ s. inRoom (textOf ws) room)

@@ -1,4 +1,4 @@
--- Sheets to try (02, request 1), as one table: what they make, and what they are refused with. Texts are quoted, with \n for a line feed.
+-- Sheets to try (02, requests 1 and 2), as one table: what they make, and what they are refused with. Texts are quoted, with \n for a line feed.
 -- Assumes nothing.
 use mathlib.Core.Path.{_≡_}
 use mathlib.Core.List.{List, [], _∷_, _++_}
@@ -116,6 +116,13 @@ cases =
     ∷ refuses "boards 2\n0 : 1 ( 2 )\n" 4 0
     ∷ refuses "boards 2\n0 : 1 ( 1 1 1 1 1 1 1 1 1 )\n0 above 2\n" 4 0
     ∷ makes "boards 2\n0 not not not not not not not not not not not not not not same 1\n" (2 ∷ 1 ∷ 0 ∷ 6 ∷ 24 ∷ 24 ∷ 0 ∷ 1 ∷ 15 ∷ 6 ∷ 6 ∷ 6 ∷ 6 ∷ 6 ∷ 6 ∷ 6 ∷ 6 ∷ 6 ∷ 6 ∷ 6 ∷ 6 ∷ 6 ∷ 6 ∷ 0 ∷ [])
+    -- then 11, where a kind line has the code of an earlier one and another number of ways; after 20, 3 and 4 in later lines
+    ∷ refuses "boards 2\n0 : 7 ( 1 )\n1 : 7 ( 0 0 )\n" 11 0
+    ∷ refuses "boards 2\n0 : 7 ( 1 )\n0 above 1\n1 : 7 ( 0 0 )\n" 11 0
+    ∷ makes "boards 2\n0 : 7 ( 1 )\n1 : 8 ( 0 0 )\n" (2 ∷ 0 ∷ 2 ∷ 6 ∷ 6 ∷ 15 ∷ 0 ∷ 7 ∷ 1 ∷ 1 ∷ 1 ∷ 8 ∷ 2 ∷ 0 ∷ 0 ∷ [])
+    ∷ refuses "boards 2\n0 : 7 ( 1 )\n1 : 7 ( 0 0 )\nx\n" 20 4
+    ∷ refuses "boards 2\n0 : 7 ( 1 )\n1 : 7 ( 1 1 1 1 1 1 1 1 1 )\n" 3 0
+    ∷ refuses "boards 2\n0 : 7 ( 1 )\n1 : 7 ( 0 0 )\n0 : 8 ( 2 )\n" 4 0
     -- then 19
     ∷ cramped "boards 1" 5
     ∷ cramped "boards 1" 0
@@ -128,12 +135,13 @@ cases =
     ∷ writes (2 ∷ 2 ∷ 0 ∷ 6 ∷ 22 ∷ 22 ∷ 0 ∷ 1 ∷ 5 ∷ 5 ∷ 4 ∷ 0 ∷ 1 ∷ 3 ∷ 0 ∷ 1 ∷ 5 ∷ 5 ∷ 0 ∷ 4 ∷ 1 ∷ 3 ∷ []) "boards 2\n0 ( same or above ) and side 1\n0 same and ( above or side ) 1\n"
     ∷ writes (2 ∷ 2 ∷ 0 ∷ 6 ∷ 22 ∷ 22 ∷ 0 ∷ 1 ∷ 5 ∷ 4 ∷ 5 ∷ 0 ∷ 1 ∷ 3 ∷ 0 ∷ 1 ∷ 5 ∷ 4 ∷ 0 ∷ 5 ∷ 1 ∷ 3 ∷ []) "boards 2\n0 same and above or side 1\n0 same or above and side 1\n"
     ∷ writes (2 ∷ 4 ∷ 0 ∷ 6 ∷ 35 ∷ 35 ∷ 0 ∷ 1 ∷ 4 ∷ 6 ∷ 4 ∷ 0 ∷ 1 ∷ 0 ∷ 1 ∷ 4 ∷ 7 ∷ 5 ∷ 0 ∷ 1 ∷ 0 ∷ 1 ∷ 4 ∷ 6 ∷ 7 ∷ 6 ∷ 1 ∷ 0 ∷ 1 ∷ 5 ∷ 4 ∷ 6 ∷ 0 ∷ 7 ∷ 1 ∷ []) "boards 2\n0 not ( same or above ) 1\n0 inv ( same and above ) 1\n0 not inv not above 1\n0 not same or inv above 1\n"
-    -- the writer's refusals: 1 to 5, then 19
+    -- the writer's refusals: 1 to 5, then 11, then 19
     ∷ unwritten (2 ∷ 0 ∷ 0 ∷ 6 ∷ 6 ∷ []) 1
     ∷ unwritten (2 ∷ 0 ∷ 0 ∷ 6 ∷ 6 ∷ 7 ∷ []) 2
     ∷ unwritten (2 ∷ 1 ∷ 0 ∷ 6 ∷ 8 ∷ 8 ∷ 0 ∷ 1 ∷ []) 3
     ∷ unwritten (2 ∷ 1 ∷ 0 ∷ 6 ∷ 10 ∷ 10 ∷ 0 ∷ 2 ∷ 1 ∷ 0 ∷ []) 4
     ∷ unwritten (2 ∷ 1 ∷ 0 ∷ 6 ∷ 10 ∷ 10 ∷ 0 ∷ 1 ∷ 1 ∷ 8 ∷ []) 5
+    ∷ unwritten (2 ∷ 0 ∷ 2 ∷ 6 ∷ 6 ∷ 15 ∷ 0 ∷ 7 ∷ 1 ∷ 1 ∷ 1 ∷ 7 ∷ 2 ∷ 0 ∷ 0 ∷ []) 11
     ∷ tight (1 ∷ 0 ∷ 0 ∷ 6 ∷ 6 ∷ 6 ∷ []) 8
     ∷ tight (1 ∷ 0 ∷ 0 ∷ 6 ∷ 6 ∷ 6 ∷ []) 0
     ∷ []

@@ -2,7 +2,7 @@
 -- strike nothing. Assumes nothing.
 use mathlib.Core.Path.{_≡_, subst}
 use Rattle.rules.specs.Descriptions.{Sheet}
-use Rattle.sheet.proofs.Described.{described, described-one}
+use Rattle.sheet.proofs.Described.{described, described-one, described-agreed}
 use Rattle.closing.specs.Closes.{closes}
 use Rattle.closing.proofs.Closings.{closing-again}
 use native.Mathlib.Omega.{arith}
@@ -35,7 +35,7 @@ rounds-requires : tie.Need-rounds-requires
 rounds-requires c κs =
     let start = c .before .before .before .before in
     let d = described (start .args .words .now) (start .args .h) (start .pre .0 .header) in
-    (start .pre .0 .ready, (d .0 .kinds, d .1 .kinds))
+    (start .pre .0 .ready, described-agreed (d .1))
 
 same-length : tie.Need-same-length
 same-length c = search needs

@@ -16,16 +16,16 @@ rules2-requires : tie.Need-rules2-requires
 rules2-requires c κs = search needs
 
 rules6-requires : tie.Need-rules6-requires
-rules6-requires c κs = (ready-kept (c .before .before .before .before .before .before .before .pre .0) (c .before .before .before .rules2 .ensures .kept), c .before .before .before .before .before .before .before .pre .1)
+rules6-requires c κs = (ready-kept (c .before .before .before .before .before .before .before .pre .0) (c .before .before .before .rules2 .ensures .kept), c .before .before .before .before .before .before .before .pre .1 .0)
 
 rules7-requires : tie.Need-rules7-requires
 rules7-requires c κs =
-    let ks = c .before .before .before .before .before .before .before .before .before .before .before .pre .1 in
-    (ready-kept (ready-kept (c .before .before .before .before .before .before .before .before .before .before .before .pre .0) (c .before .before .before .before .before .before .before .rules2 .ensures .kept)) (c .before .before .before .rules6 .ensures (ks .0) (ks .1) .kept), ks)
+    let ks = c .before .before .before .before .before .before .before .before .before .before .before .pre .1 .0 in
+    (ready-kept (ready-kept (c .before .before .before .before .before .before .before .before .before .before .before .pre .0) (c .before .before .before .before .before .before .before .rules2 .ensures .kept)) (c .before .before .before .rules6 .ensures (ks .0) (ks .1) .kept), c .before .before .before .before .before .before .before .before .before .before .before .pre .1)
 
 rules3-requires : tie.Need-rules3-requires
 rules3-requires c κs =
-    let ks = c .before .before .before .before .before .before .before .before .before .before .before .before .before .before .before .pre .1 in
+    let ks = c .before .before .before .before .before .before .before .before .before .before .before .before .before .before .before .pre .1 .0 in
     ready-kept (ready-kept (ready-kept (c .before .before .before .before .before .before .before .before .before .before .before .before .before .before .before .pre .0) (c .before .before .before .before .before .before .before .before .before .before .before .rules2 .ensures .kept)) (c .before .before .before .before .before .before .before .rules6 .ensures (ks .0) (ks .1) .kept)) (c .before .before .before .rules7 .ensures (ks .0) (ks .1) .kept)
 
 enum-known-swept : tie.Need-enum-known-swept
@@ -36,7 +36,7 @@ enum-told c = search needs
 
 same-length : tie.Need-same-length
 same-length c =
-    let ks = c .before .before .before .before .before .before .before .before .before .before .before .before .before .before .before .before .before .before .before .before .pre .1 in
+    let ks = c .before .before .before .before .before .before .before .before .before .before .before .before .before .before .before .before .before .before .before .before .pre .1 .0 in
     c .before .before .before .before .rules3 .kept .1 .0 ∙ c .before .before .before .before .before .before .before .before .rules7 .ensures (ks .0) (ks .1) .kept .table .cells ∙ sym (c .before .before .before .before .before .before .before .before .before .before .before .before .before .before .before .before .before .before .before .before .pre .0 .table .cells)
 
 returns : tie.Need-returns
@@ -47,11 +47,11 @@ returns c = λ ks e.
 
 -- the round by its four passes
 whole : (c : tie.After-known-told)
-    → Round (c .before .before .before .before .before .before .before .before .before .before .before .before .before .before .before .before .before .before .before .before .before .args .v) (rulesAgain (c .before .before .before .before .before .before .before .before .before .before .before .before .before .before .before .before .before .before .before .before .before .args .v) (c .before .before .before .before .before .before .before .before .before .before .before .before .before .before .before .before .before .before .before .before .before .pre .1 .0)) (c .before .before .before .before .before .before .before .before .before .before .before .before .before .before .before .before .before .before .before .before .before .args .cells .now) (c .before .before .before .before .before .rules3 .last .1 .0)
+    → Round (c .before .before .before .before .before .before .before .before .before .before .before .before .before .before .before .before .before .before .before .before .before .args .v) (rulesAgain (c .before .before .before .before .before .before .before .before .before .before .before .before .before .before .before .before .before .before .before .before .before .args .v) (c .before .before .before .before .before .before .before .before .before .before .before .before .before .before .before .before .before .before .before .before .before .pre .1 .0 .0)) (c .before .before .before .before .before .before .before .before .before .before .before .before .before .before .before .before .before .before .before .before .before .args .cells .now) (c .before .before .before .before .before .rules3 .last .1 .0)
     (c .before .before .before .before .before .before .before .before .before .before .before .before .before .before .before .before .before .rules2 .result + (c .before .before .before .before .before .before .before .before .before .before .before .before .before .rules6 .result + c .before .before .before .before .before .before .before .before .before .rules7 .result + c .before .swept .given .0 .0))
 whole c =
     let v = c .before .before .before .before .before .before .before .before .before .before .before .before .before .before .before .before .before .before .before .before .before .args .v in
-    let ks = c .before .before .before .before .before .before .before .before .before .before .before .before .before .before .before .before .before .before .before .before .before .pre .1 in
+    let ks = c .before .before .before .before .before .before .before .before .before .before .before .before .before .before .before .before .before .before .before .before .before .pre .1 .0 in
     round-struck (rules2 v) (rules6 v (ks .0)) (rules7 v (ks .0)) (rules3 v) (c .before .before .before .before .before .before .before .before .before .before .before .before .before .before .before .before .before .before .before .before .before .pre .0) (c .before .before .before .before .before .before .before .before .before .before .before .before .before .before .before .before .before .rules2 .ensures) (c .before .before .before .before .before .before .before .before .before .before .before .before .before .rules6 .ensures (ks .0) (ks .1))
     (c .before .before .before .before .before .before .before .before .before .rules7 .ensures (ks .0) (ks .1)) (subst (sweeping v (rules3 v) _ _) (c .before .swept .given .1) (c .before .before .before .before .before .rules3 .ensures)) (threes-see v)
 

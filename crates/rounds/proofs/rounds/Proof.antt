@@ -22,7 +22,9 @@ loop-holds : tie.Need-loop-holds Inv-loop μ-loop
 loop-holds c = λ ks e. kept-start (c .before .before .pre .0 .table)
 
 round-requires : tie.Need-round-requires Inv-loop μ-loop
-round-requires c κs = let ks = c .before .before .before .before .pre .1 in (ready-kept (c .before .before .before .before .pre .0) (c .before .loop .inv (ks .0) (ks .1)), ks)
+round-requires c κs =
+    let pre = c .before .before .before .before .pre in
+    (ready-kept (pre .0) (c .before .loop .inv (pre .1 .0 .0) (pre .1 .0 .1)), pre .1)
 
 enum-known-more : tie.Need-enum-known-more Inv-loop μ-loop
 enum-known-more c = search needs
@@ -31,7 +33,7 @@ enum-told : tie.Need-enum-told Inv-loop μ-loop
 enum-told c = search needs
 
 same-length : tie.Need-same-length Inv-loop μ-loop
-same-length c = let ks = c .before .before .before .before .before .before .before .before .before .pre .1 in c .before .before .before .before .round .kept .1 .1 .1 .0 ∙ c .before .before .before .before .before .before .loop .inv (ks .0) (ks .1) .inside .cells
+same-length c = let ks = c .before .before .before .before .before .before .before .before .before .pre .1 .0 in c .before .before .before .before .round .kept .1 .1 .1 .0 ∙ c .before .before .before .before .before .before .loop .inv (ks .0) (ks .1) .inside .cells
 
 returns : tie.Need-returns Inv-loop μ-loop
 returns c = λ ks e.
@@ -39,7 +41,7 @@ returns c = λ ks e.
     rounds-clash (rulesAgain v ks) (c .before .before .before .before .before .before .loop .inv ks e) (subst (afterRound v (rulesAgain v ks) _ _) (c .enum-told .given .1) (c .before .before .before .before .round .ensures ks e))
 
 same-length-2 : tie.Need-same-length-2 Inv-loop μ-loop
-same-length-2 c = let ks = c .before .before .before .before .before .before .before .before .before .before .before .pre .1 in c .before .before .before .before .before .before .round .kept .1 .1 .1 .0 ∙ c .before .before .before .before .before .before .before .before .loop .inv (ks .0) (ks .1) .inside .cells
+same-length-2 c = let ks = c .before .before .before .before .before .before .before .before .before .before .before .pre .1 .0 in c .before .before .before .before .before .before .round .kept .1 .1 .1 .0 ∙ c .before .before .before .before .before .before .before .before .loop .inv (ks .0) (ks .1) .inside .cells
 
 returns-2 : tie.Need-returns-2 Inv-loop μ-loop
 returns-2 c = λ ks e.
@@ -52,11 +54,11 @@ loop-again c = λ ks e.
     rounds-again (rulesAgain v ks) (c .before .before .before .before .before .before .before .before .loop .inv ks e) (subst (afterRound v (rulesAgain v ks) _ _) (c .before .before .more .given .1) (c .before .before .before .before .before .before .round .ensures ks e))
 
 add-struck : tie.Need-add-struck Inv-loop μ-loop
-add-struck c = let ks = c .before .before .before .before .before .before .before .before .before .before .before .pre .1 in record { fits = omega (arith, kept-few (c .before .before .before .before .before .before .before .before .before .before .before .pre .0) (loop-again c (ks .0) (ks .1))) }
+add-struck c = let ks = c .before .before .before .before .before .before .before .before .before .before .before .pre .1 .0 in record { fits = omega (arith, kept-few (c .before .before .before .before .before .before .before .before .before .before .before .pre .0) (loop-again c (ks .0) (ks .1))) }
 
 loop-less : tie.Need-loop-less Inv-loop μ-loop
 loop-less c =
-    let ks = c .before .before .before .before .before .before .before .before .before .before .before .pre .1 in
+    let ks = c .before .before .before .before .before .before .before .before .before .before .before .pre .1 .0 in
     let before = c .before .before .before .before .before .before .before .before .loop .inv (ks .0) (ks .1) .counted in
     let after = loop-again c (ks .0) (ks .1) .counted in
     let l = c .if1 .left in

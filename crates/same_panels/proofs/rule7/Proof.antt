@@ -6,7 +6,8 @@ use mathlib.Core.Logic.{⊎-elim}
 use native.Mathlib.Omega.{arith}
 use Rattle.rules.specs.Relations.{relations, has, setTo, setOf, complement}
 use Rattle.rules.specs.Descriptions.{KindLine}
-use Rattle.rules.proofs.Tests.{clash, unequal, equal}
+use Rattle.rules.specs.Arrangements.{Alike}
+use Rattle.rules.proofs.Tests.{clash}
 use Rattle.rules.proofs.Sets.{single-small}
 use Rattle.rules.proofs.Rules.{same-small}
 use Rattle.passes.proofs.Passes.{place-few, ready-place}
@@ -66,8 +67,8 @@ part-others-end c = search needs
 
 ways-match-requires : tie.Need-ways-match-requires
 ways-match-requires c κs =
-    let pre = c .before .before .before .before .before .before .before .before .before .before .before .before .before .before .pre in
-    (pre .0, record { ways = pre .1 .boards; others = pre .2 .boards; same = equal _ _ (c .before .if3 .left) })
+    let pre = c .before .before .before .before .before .before .before .before .before .before .before .before .before .pre in
+    (pre .0, record { ways = pre .1 .boards; others = pre .2 .boards; same = pre .3 (c .before .if2 .left) })
 
 narrow-requires : tie.Need-narrow-requires
 unfolding relations
@@ -85,37 +86,47 @@ returns-2 c =
     let start = test .before .before .before .before .before .before .before in
     rule7-struck (start .args .v) (one start) (two start) (start .args .cells .now) (start .pre .0) (start .pre .1 .board) (start .pre .2 .board)
     (λ e. test .if1 .left (test .before .meet .ensures ∙ e))
-    (λ alike each.
-    ⊎-elim (λ w. omega (arith, w .taken, alike .0))
-    (⊎-elim (λ w. unequal _ _ (w .1 .taken) (alike .1)) (λ w. clash (cc (not-true (w .3 .result) (w .4 .taken), w .3 .ensures))))
+    (λ alike each. ⊎-elim (λ w. omega (arith, w .taken, alike .0)) (λ w. clash (cc (not-true (w .2 .result) (w .3 .taken), w .2 .ensures)))
     (c .before .before .before .before .if2 .came)) (c .before .before .narrow .ensures)
+
+-- where the codes are one and each two ways may be the same
+module _ (c : tie.Else3) where
+  start : tie.Start
+  start = c .before .before .before .before .before .before .before .before .before .before .before .before .before .before .before
+
+  -- so are the numbers of ways
+  alike : Alike (one start) (two start)
+  unfolding start
+  alike = let codes = c .before .before .before .if2 .left in (codes, start .pre .3 codes)
 
 same-length-2 : tie.Need-same-length-2
 same-length-2 c = search needs
 
 returns-3 : tie.Need-returns-3
+unfolding start
 returns-3 c =
-    let start = c .before .before .before .before .before .before .before .before .before .before .before .before .before .before .before .before .before in
-    rule7-open (start .args .v) (one start) (two start) (start .args .cells .now) (start .pre .0) (start .pre .1 .board) (start .pre .2 .board)
-    (c .before .before .before .before .before .if2 .left, equal _ _ (c .before .before .before .before .if3 .left)) (c .before .before .ways-match .ensures)
-    (not-false _ (c .before .if4 .left)) (c .if5 .taken)
+    let both = c .before in
+    let (ready, line, other, same) = start both .pre in
+    rule7-open (start both .args .v) (one (start both)) (two (start both)) (start both .args .cells .now) ready (line .board) (other .board) (alike both)
+    (both .before .ways-match .ensures) (not-false _ (both .if3 .left)) (c .if4 .taken)
 
 match-ways-requires : tie.Need-match-ways-requires
+unfolding start
 match-ways-requires c κs =
-    let test = c .before .before .before .before .before in
-    let pre = test .before .before .before .before .before .before .before .before .before .before .before .before .before .pre in
-    (pre .0, record { ways = pre .1 .boards; others = pre .2 .boards; same = equal _ _ (test .if3 .left) })
+    let both = c .before .before in
+    let (ready, line, other, same) = start both .pre in
+    (ready, record { ways = line .boards; others = other .boards; same = alike both .1 })
 
 same-length-3 : tie.Need-same-length-3
 same-length-3 c = search needs
 
 returns-4 : tie.Need-returns-4
+unfolding start
 returns-4 c =
-    let test = c .before .before .before .before in
-    let start = test .before .before .before .before .before .before .before .before .before .before .before .before .before .before .before .before .before in
-    rule7-joined (start .args .v) (one start) (two start) (start .args .cells .now) (start .pre .0) (start .pre .1 .board) (start .pre .2 .board)
-    (test .before .before .before .before .before .if2 .left, equal _ _ (test .before .before .before .before .if3 .left))
-    (test .before .before .ways-match .ensures) (not-false _ (test .before .if4 .left)) (test .if5 .left) (c .before .before .match-ways .ensures)
+    let both = c .before .before .before .before .before in
+    let (ready, line, other, same) = start both .pre in
+    rule7-joined (start both .args .v) (one (start both)) (two (start both)) (start both .args .cells .now) ready (line .board) (other .board) (alike both)
+    (both .before .ways-match .ensures) (not-false _ (both .if3 .left)) (c .before .before .before .before .if4 .left) (c .before .before .match-ways .ensures)
 
 pub rule7-spec : {M : Type 1} → statement M
 rule7-spec =

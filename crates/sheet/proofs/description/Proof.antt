@@ -58,33 +58,33 @@ returns-2 c =
 enum-told : tie.Need-enum-told
 enum-told c = search needs
 
-mul-kind-section : tie.Need-mul-kind-section
-mul-kind-section c =
+mul-agreed-section : tie.Need-mul-agreed-section
+mul-agreed-section c =
     let start = c .before .before .before .before .before .before .before .before .before in
     let head = c .before .before .before .before .before in
     let h = headed (start .args .words .now) _ (sym (head .h .given .1) ∙ head .before .before .read-header .ensures) in
     let l : head .h .given .0 .0 .kinds .at ≤ length (start .args .words .now) = kinds-within (start .args .words .now) h in
     search needs
 
-sub-kind-section : tie.Need-sub-kind-section
-sub-kind-section c =
+sub-agreed-section : tie.Need-sub-agreed-section
+sub-agreed-section c =
     let start = c .before .before .before .before .before .before .before .before .before in
     let head = c .before .before .before .before .before in
     let h = headed (start .args .words .now) _ (sym (head .h .given .1) ∙ head .before .before .read-header .ensures) in
     kinds-within (start .args .words .now) h
 
-part-kind-section-start : tie.Need-part-kind-section-start
-part-kind-section-start c =
+part-agreed-section-start : tie.Need-part-agreed-section-start
+part-agreed-section-start c =
     let start = c .before .before .before .before .before .before .before .before .before in
     let head = c .before .before .before .before .before in
     let h = headed (start .args .words .now) _ (sym (head .h .given .1) ∙ head .before .before .read-header .ensures) in
     kinds-within (start .args .words .now) h
 
-part-kind-section-end : tie.Need-part-kind-section-end
-part-kind-section-end c = search needs
+part-agreed-section-end : tie.Need-part-agreed-section-end
+part-agreed-section-end c = search needs
 
-kind-section-requires : tie.Need-kind-section-requires
-kind-section-requires c κs = search needs
+agreed-section-requires : tie.Need-agreed-section-requires
+agreed-section-requires c κs = search needs
 
 enum-known-kinds : tie.Need-enum-known-kinds
 enum-known-kinds c = search needs
@@ -97,7 +97,7 @@ returns-3 c =
     let lines = c .before .before .before .before .before in
     description-no-kinds (start .args .words .now) h
     (relation-part (start .args .words .now) h _ (sym (lines .enum-told .given .1) ∙ lines .before .before .relation-section .ensures)) _
-    (kind-part (start .args .words .now) h _ (sym (c .before .kinds .given .1) ∙ c .before .before .before .kind-section .ensures))
+    (kind-part (start .args .words .now) h _ (sym (c .before .kinds .given .1) ∙ c .before .before .before .agreed-section .ensures))
 
 enum-told-2 : tie.Need-enum-told-2
 enum-told-2 c = search needs
@@ -110,7 +110,7 @@ returns-4 c =
     let lines = c .before .before .before .before in
     description-read (start .args .words .now) h
     (relation-part (start .args .words .now) h _ (sym (lines .enum-told .given .1) ∙ lines .before .before .relation-section .ensures))
-    (kind-part (start .args .words .now) h _ (sym (c .enum-told2 .given .1) ∙ c .before .before .kind-section .ensures))
+    (kind-part (start .args .words .now) h _ (sym (c .enum-told2 .given .1) ∙ c .before .before .agreed-section .ensures))
 
 pub description-spec : {M : Type 1} → statement M
 description-spec =
@@ -127,11 +127,11 @@ description-spec =
     enum-known-lines
     returns-2
     enum-told
-    mul-kind-section
-    sub-kind-section
-    part-kind-section-start
-    part-kind-section-end
-    kind-section-requires
+    mul-agreed-section
+    sub-agreed-section
+    part-agreed-section-start
+    part-agreed-section-end
+    agreed-section-requires
     enum-known-kinds
     returns-3
     enum-told-2

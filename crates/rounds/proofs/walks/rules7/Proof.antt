@@ -5,7 +5,7 @@ use Rattle.rules.specs.Descriptions.{kindLine}
 use Rattle.rules.specs.Closing.{rules7}
 use Rattle.passes.specs.Passes.{Pass, Quiet}
 use Rattle.passes.proofs.Passes.{kept-few}
-use Rattle.kinds.proofs.Passing.{pass-strikes, Along, along-start, along-kept, along-end, kind-there, kind-ready, kind-next}
+use Rattle.kinds.proofs.Passing.{pass-strikes, Along, along-start, along-kept, along-end, kind-there, kind-ready, kind-among, kind-next}
 use Rattle.rounds.specs.Rounds.{pairedWith}
 use Rattle.rounds.proofs.walks.rules7.Statement.{statement}
 use Rattle.rounds.proofs.walks.rules7.Tie as tie
@@ -21,14 +21,15 @@ loop-holds : tie.Need-loop-holds Inv-loop μ-loop
 loop-holds c = along-start pass-strikes (c .before .before .pre .0 .table)
 
 kind-at-requires : tie.Need-kind-at-requires Inv-loop μ-loop
-kind-at-requires c κs = kind-there pass-strikes (c .before .loop .inv) (c .before .before .before .before .pre .1) (c .loop-test .taken)
+kind-at-requires c κs = kind-there pass-strikes (c .before .loop .inv) (c .before .before .before .before .pre .1 .0) (c .loop-test .taken)
 
 rule7-with-each-requires : tie.Need-rule7-with-each-requires Inv-loop μ-loop
 rule7-with-each-requires c κs =
     let met = c .before in
     let pre = met .before .before .before .before .before .pre in
-    let asked = kind-ready pass-strikes (met .before .before .loop .inv) (pre .1) (met .before .loop-test .taken) (met .kind-at .ensures) (pre .0) in
-    (asked .0, pre .1, asked .1)
+    let asked = kind-ready pass-strikes (met .before .before .loop .inv) (pre .1 .0) (met .before .loop-test .taken) (met .kind-at .ensures) (pre .0) in
+    let among = kind-among pass-strikes (met .before .before .loop .inv) (pre .1 .0) (met .before .loop-test .taken) (met .kind-at .ensures) (pre .0) in
+    (asked .0, pre .1, asked .1, among)
 
 sub-left : tie.Need-sub-left Inv-loop μ-loop
 sub-left c = search needs
@@ -40,16 +41,16 @@ loop-again : tie.Need-loop-again Inv-loop μ-loop
 loop-again c =
     let met = c .before .before .before .before in
     let pre = met .before .before .before .before .before .pre in
-    kind-next pass-strikes (met .before .before .loop .inv) (pre .1) (met .before .loop-test .taken) (met .kind-at .ensures) (pre .0)
+    kind-next pass-strikes (met .before .before .loop .inv) (pre .1 .0) (met .before .loop-test .taken) (met .kind-at .ensures) (pre .0)
     (c .before .before .rule7-with-each .ensures)
 
 add-struck : tie.Need-add-struck Inv-loop μ-loop
 add-struck c =
     let pre = c .before .before .before .before .before .before .before .before .before .pre in
-    omega (arith, kept-few (pre .0) (along-kept pass-strikes (loop-again c) (pre .1)))
+    omega (arith, kept-few (pre .0) (along-kept pass-strikes (loop-again c) (pre .1 .0)))
 
 same-length : tie.Need-same-length Inv-loop μ-loop
-same-length c = along-kept pass-strikes (c .before .loop .inv) (c .before .before .before .before .pre .1) .inside .cells
+same-length c = along-kept pass-strikes (c .before .loop .inv) (c .before .before .before .before .pre .1 .0) .inside .cells
 
 returns : tie.Need-returns Inv-loop μ-loop
 unfolding rules7

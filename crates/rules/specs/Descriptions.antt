@@ -126,11 +126,11 @@ relationLines ws = section (relationLine (getD ws 0 0)) (getD ws 1 0) (take (get
 unfoldable pub kindLines : List ℕ → Reading (List KindLine)
 kindLines ws = section (kindLine (getD ws 0 0)) (getD ws 2 0) (drop (getD ws 4 0) ws)
 
--- One kind code means one number of ways. A kind line disagrees with one that has its code and another number of ways;
+-- One kind code means one number of ways. A kind line disagrees with one that has its code and another number of ways.
 unfoldable pub disagrees : KindLine → KindLine → Bool
 disagrees k l = eqb (k .code) (l .code) && not (eqb (length (k .ways)) (length (l .ways)))
 
--- the number, from 0, of the first line that disagrees with an earlier one, where these come before them all; or how many lines there are.
+-- The number, from 0, of the first of some lines that disagrees with an earlier one, those that come before them all included; or how many they are.
 unfoldable pub firstDisagreeing : List KindLine → List KindLine → ℕ
 firstDisagreeing earlier [] = 0
 firstDisagreeing earlier (k ∷ ks) = elim (someOf (disagrees k) earlier) [ true ↦ 0 | false ↦ suc (firstDisagreeing (earlier ++ (k ∷ [])) ks) ]

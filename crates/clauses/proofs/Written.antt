@@ -10,7 +10,7 @@ use Rattle.rules.specs.Descriptions.{RelationLine, KindLine, Sheet, Reading, go
 use Rattle.rules.proofs.Expressions.{expression-written}
 use Rattle.rules.proofs.Readings.{never, next-out}
 use Rattle.rules.proofs.Headers.{InRange, Placed}
-use Rattle.rules.proofs.Descriptions.{read-parts}
+use Rattle.rules.proofs.Descriptions.{read-out}
 use Rattle.rules.proofs.Lines.{RelationRead, relation-out, KindRead, kind-out, ways-length}
 use Rattle.clauses.specs.Clauses.{Description, line, sheet, formulaWords, labelWords, Writes}
 
@@ -128,7 +128,7 @@ sections-described ws r p ls ks m n a b =
 pub read-writes : (ws : List ℕ) (s : Sheet) → read ws ≡ good s → (φ : Description) × Writes ws φ × (sheet φ ≡ s)
 unfolding relationLines kindLines
 read-writes ws s e =
-    let r = read-parts ws s e in
+    let r = read-out ws s e in
     let v = getD ws 0 0 in
     let a =
     section-written formulaWords line (relationLine v) (relation-written v) (getD ws 1 0) (take (getD ws 4 0 - 6) (drop 6 ws)) (s .lines) (r .lines) in

@@ -13,7 +13,7 @@ use Rattle.rules.specs.Calls.{Outcome, reading, fresh, searching}
 use Rattle.rules.specs.Tables.{filled}
 use Rattle.rules.proofs.Tests.{true-T, T-true, T-false, and-T, T-and-left, T-and-right}
 use Rattle.rules.proofs.Headers.{InRange}
-use Rattle.rules.proofs.Descriptions.{read-parts, read-bounded}
+use Rattle.rules.proofs.Descriptions.{read-out, read-bounded}
 use Rattle.rules.proofs.Calls.{admitted-refused}
 use Rattle.rules.proofs.Called.{search-refused}
 use Rattle.rules.proofs.Freshness.{fresh-full}
@@ -60,7 +60,7 @@ module _ {v : ℕ} (ws t : List ℕ) {u w : List ℕ} {a b : Answer} (some : 1 �
 module _ (ws : List ℕ) where
   -- the numbers of a good description are in range
   pub read-in-range : (s : Sheet) → read ws ≡ good s → InRange ws
-  read-in-range s e = read-parts ws s e .numbers
+  read-in-range s e = read-out ws s e .numbers
 
   -- what is printed is told of a search of a full table
   pub solved-searched : {v : ℕ} → v ≡ getD ws 0 0 → solved ws ≡ told v (searching plainOrder ws (filled v) budget)

@@ -67,7 +67,7 @@ kindLine-out v ws f e =
     )
 
 -- what a good description passed, and what its sections come to
-pub record ReadParts (ws : List ℕ) (s : Sheet) : Type 0 where
+pub record SheetRead (ws : List ℕ) (s : Sheet) : Type 0 where
   pub numbers : InRange ws
   pub places : Placed ws
   pub boards : getD ws 0 0 ≡ s .boards
@@ -75,15 +75,15 @@ pub record ReadParts (ws : List ℕ) (s : Sheet) : Type 0 where
   pub kinds : kindLines ws ≡ good (s .kinds)
   pub arity : OneArity (s .kinds)
 
-pub read-parts : (ws : List ℕ) (s : Sheet) → read ws ≡ good s → ReadParts ws s
+pub read-out : (ws : List ℕ) (s : Sheet) → read ws ≡ good s → SheetRead ws s
 unfolding read
-read-parts ws s e =
+read-out ws s e =
     let (ls, d, g) = next-out (relationLines ws) ruled s third in
     let (ks, k, h) = next-out (next (kindLines ws) agreed) (λ ks. good (sheet ls ks)) s g in
     let (js, a, b) = next-out (kindLines ws) agreed ks k in
     let same : sheet ls ks ≡ s = cc in
     let (all, one) = agreed-out js ks b in
-    subst (ReadParts ws) same
+    subst (SheetRead ws) same
     (record {
       numbers = numbers-out ws (need-test 1 (numbersFit ws) (need 2 (offsetsFit ws) (next (relationLines ws) ruled)) s e);
       places = places-out ws (need-test 2 (offsetsFit ws) (next (relationLines ws) ruled) s second);
@@ -109,7 +109,7 @@ read-parts ws s e =
 pub read-wellFormed : (ws : List ℕ) (s : Sheet) → read ws ≡ good s → WellFormed s
 unfolding relationLines kindLines
 read-wellFormed ws s e =
-    let r = read-parts ws s e in
+    let r = read-out ws s e in
     let v = getD ws 0 0 in
     let (m, a) = section-out (relationLine v) (Relation v) (relationLine-out v) (getD ws 1 0) _ (s .lines) (r .lines) in
     let (n, b) = section-out (kindLine v) (Kind v) (kindLine-out v) (getD ws 2 0) _ (s .kinds) (r .kinds) in

@@ -6,7 +6,7 @@ use lib.ListN.{length, getD, take, drop}
 use Rattle.rules.specs.Descriptions.{mostBoards, Sheet, Reading, good, refused, relationLine, kindLine, section, relationLines, kindLines, read, OneArity}
 use Rattle.rules.proofs.Tests.{clash}
 use Rattle.rules.proofs.Parts.{tail}
-use Rattle.rules.proofs.Descriptions.{read-parts, read-wellFormed}
+use Rattle.rules.proofs.Descriptions.{read-out, read-wellFormed}
 use Rattle.answers.specs.declared.refusals.Refusal.{Refusal}
 use Rattle.headers.specs.declared.Header.{Header}
 use Rattle.headers.specs.declared.HeaderFound.the-variants.{Good, Refused}
@@ -29,7 +29,7 @@ module _ (ws : List ℕ) where
   numbered : (s : Sheet) → read ws ≡ good s → Described ws (numbers ws) s
   unfolding relationLines kindLines
   numbered s e =
-      let r = read-parts ws s e in
+      let r = read-out ws s e in
       record {
         means = e;
         boards = r .boards;

@@ -10,7 +10,7 @@ use Rattle.rules.specs.Expressions.{written}
 use Rattle.rules.specs.Descriptions.{mostBoards, Sheet, Reading, good, Front, relationLine, kindLine, read, describe}
 use Rattle.rules.proofs.Members.{All, at-member}
 use Rattle.rules.proofs.Headers.{InRange}
-use Rattle.rules.proofs.Descriptions.{read-parts}
+use Rattle.rules.proofs.Descriptions.{read-out}
 use Rattle.rules.proofs.Lines.{relation-out, kind-out, boardsOnly-out}
 use Rattle.typed.specs.Symbols.{mostNumber}
 use Rattle.returns.proofs.Sections.{Reads, none, more}
@@ -79,7 +79,7 @@ described-laid : (v : ℕ) (rs ks : List (List ℕ)) → All TypableRelation rs 
     → Laid (describe v rs ks)
 described-laid v rs ks f g s e =
     let ws = describe v rs ks in
-    let r = read-parts ws s e .numbers in
+    let r = read-out ws s e .numbers in
     let (a, b) = lines-good v rs ks (λ w m. relation-line (f w m)) (λ w m. kind-line (g w m)) s e in
     let last = lines-begin IsKind ks (λ w m. kind-stands v (r .boards) (g w m) (each-read (kindLine v) b w m)) [] in
     record {

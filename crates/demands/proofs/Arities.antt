@@ -11,14 +11,14 @@ use lib.Dec.{eqb}
 use lib.ListN.{length, getD, take, drop}
 use lib.Seq.{split-at, length-take-le}
 use Rattle.rules.specs.Expressions.{codes, code, follow, evaluate, expression}
-use Rattle.rules.specs.Descriptions.{RelationLine, KindLine, Sheet, Reading, good, refused, need, next, relationLine, kindLine, section, numbersFit, offsetsFit, relationLines, kindLines, disagrees, firstDisagreeing, agreed, read, OneArity, describe}
+use Rattle.rules.specs.Descriptions.{KindLine, Sheet, Reading, good, refused, next, relationLine, kindLine, section, numbersFit, offsetsFit, relationLines, kindLines, meant, disagrees, firstDisagreeing, agreed, agreedSheet, read, OneArity, describe}
 use Rattle.rules.specs.Arrangements.{width, Alike}
 use Rattle.rules.specs.Closing.{agree}
 use Rattle.rules.specs.Calls.{reading}
 use Rattle.rules.specs.Cases.{feedsAs, feeds}
 use Rattle.rules.proofs.Tests.{clash}
 use Rattle.rules.proofs.Members.{some-of-out}
-use Rattle.rules.proofs.Refusals.{Only, only-need, only-next, only-kinds, only-relations}
+use Rattle.rules.proofs.Refusals.{Only, only-meant}
 use Rattle.rules.proofs.Arities.{disagrees-out, first-few, first-disagreeing, none-disagreeing, agreed-in, agreed-refused}
 use Rattle.rules.proofs.Descriptions.{read-wellFormed}
 use Rattle.meanings.proofs.Sheets.{typed-made}
@@ -26,7 +26,7 @@ use Rattle.answers.specs.declared.Answer.{Answer}
 use Rattle.demands.specs.Entries.{Reads, Call, ReadingText, WritingText}
 use Rattle.demands.specs.Sentences.{TableCall}
 use Rattle.demands.specs.Texts.{RoomCall}
-use Rattle.demands.specs.Arities.{meant, Disagreeing, Disagree, OneNumberOfWays}
+use Rattle.demands.specs.Arities.{Disagreeing, Disagree, OneNumberOfWays}
 use Rattle.demands.proofs.Refusing.{reading-refused, call-gives, gives-description, gives-eleven}
 use Rattle.demands.proofs.Rooms.{ends-refused, writer-ends, reader-ends}
 
@@ -74,64 +74,37 @@ module _ (ks : List KindLine) where
 
 -- ---- a description
 
--- 11 after what 01 makes of the words
-after : Sheet → Reading Sheet
-after s = next (agreed (s .kinds)) (λ ks. good (record { boards = s .boards; lines = s .lines; kinds = ks }))
-
-read-after : (ws : List ℕ) → read ws ≡ next (meant ws) after
-unfolding read meant after
-read-after ws = go (numbersFit ws) (offsetsFit ws) (relationLines ws) (kindLines ws)
-  where
-    sheet : List RelationLine → List KindLine → Sheet
-    sheet ls ks = record { boards = getD ws 0 0; lines = ls; kinds = ks }
-
-    go : (a b : Bool) (r : Reading (List RelationLine)) (q : Reading (List KindLine))
-        → need 1 a (need 2 b (next r (λ ls. next (next q agreed) (λ ks. good (sheet ls ks)))))
-        ≡ next (need 1 a (need 2 b (next r (λ ls. next q (λ ks. good (sheet ls ks)))))) after
-    go true true (good ls) (good ks) = refl
-    go true true (good ls) (refused n) = refl
-    go true true (refused n) q = refl
-    go true false r q = refl
-    go false b r q = refl
-
--- 01 refuses with 1 to 5
-meant-few : (ws : List ℕ) → Only (λ n. n ≤ 5) (meant ws)
-unfolding meant relationLines kindLines
-meant-few ws =
-    only-need P 1 (numbersFit ws) _ (omega arith)
-    (only-need P 2 (offsetsFit ws) _ (omega arith)
-    (only-next P (relationLines ws) _ (only-relations P (omega arith) (omega arith) (omega arith) (getD ws 0 0) (getD ws 1 0) _)
-    (λ ls. only-next P (kindLines ws) _ (only-kinds P (omega arith) (omega arith) (getD ws 0 0) (getD ws 2 0) _) (λ ks. tt))))
-  where
-    P : ℕ → Type 0
-    P n = n ≤ 5
-
 module _ (ws : List ℕ) where
   -- a good reading of 01 stays where lines of one code have as many ways, and is refused with 11 where not
   after-in : (s : Sheet) → meant ws ≡ good s → OneArity (s .kinds) → read ws ≡ good s
-  unfolding after
-  after-in s e one = read-after ws ∙ rw (e, agreed-in (s .kinds) one)
+  unfolding read
+  after-in s e one = rw (e, agreed-in (s .kinds) one)
 
   after-refused : (s : Sheet) → meant ws ≡ good s → (OneArity (s .kinds) → ⊥) → read ws ≡ refused 11
-  unfolding after
-  after-refused s e none = read-after ws ∙ rw (e, agreed-refused (s .kinds) none)
+  unfolding read
+  after-refused s e none = rw (e, agreed-refused (s .kinds) none)
 
   eleven-exactly : (read ws ≡ refused 11) ↔ Disagree ws
-  eleven-exactly = (λ e. go (meant ws) refl (meant-few ws) e, λ d. after-refused (d .0) (d .1) (disagrees-some (d .0 .kinds) (d .2)))
+  unfolding read
+  eleven-exactly = (λ e. go (meant ws) refl few e, λ d. after-refused (d .0) (d .1) (disagrees-some (d .0 .kinds) (d .2)))
     where
+      few : Only (λ n. n ≤ 5) (meant ws)
+      few = only-meant (λ n. n ≤ 5) (omega arith) (omega arith) (omega arith) (omega arith) (omega arith) ws
+
       go : (r : Reading Sheet) → meant ws ≡ r → Only (λ n. n ≤ 5) r → read ws ≡ refused 11 → Disagree ws
       go (good s) m h e = (s, m, some-disagrees (s .kinds) (λ one. let d = after-in s m one in clash (cc)))
       go (refused n) m h e =
-          let d : refused n ≡ refused 11 = ap (λ (r : Reading Sheet). next r after) (sym m) ∙ sym (read-after ws) ∙ e in
+          let d : refused n ≡ refused 11 = ap (λ (r : Reading Sheet). next r agreedSheet) (sym m) ∙ e in
           let k : n ≡ 11 = cc in
           clash (omega arith)
 
   unless-eleven : (Disagree ws → ⊥) → read ws ≡ meant ws
+  unfolding read
   unless-eleven f = go (meant ws) refl
     where
       go : (r : Reading Sheet) → meant ws ≡ r → read ws ≡ meant ws
       go (good s) m = ⊎-elim (λ one. after-in s m one ∙ sym m) (λ d. absurd (f (s, m, d))) (one-or-some (s .kinds))
-      go (refused n) m = read-after ws ∙ rw m
+      go (refused n) m = rw m
 
   -- reading answers 11 exactly then
   reading-eleven : (reading ws ≡ 11) ↔ (read ws ≡ refused 11)
@@ -189,7 +162,7 @@ record Computed : Type 0 where
   no-expression : reading noExpression ≡ 5
 
 computed : Computed
-unfolding codes code follow evaluate expression relationLine kindLine section numbersFit offsetsFit relationLines kindLines disagrees firstDisagreeing agreed read
+unfolding codes code follow evaluate expression relationLine kindLine section numbersFit offsetsFit relationLines kindLines meant disagrees firstDisagreeing agreed read
     reading flatten
 computed = record { two-sizes = refl; two-codes = refl; no-expression = refl }
 

@@ -7,7 +7,7 @@ use Prim.Native.Nat.{ℕ, _≤_, _<_}
 use native.Mathlib.Omega.{arith}
 use lib.Dec.{T, leb, leb→le, le→leb}
 use lib.ListN.{length, getD, length-append}
-use Rattle.rules.specs.Descriptions.{mostBoards, mostLines, mostKinds, mostExpressionWords, mostWays, mostWords, RelationLine, Sheet, Reading, good, refused, Front, relationLine, kindLine, section, read, describe}
+use Rattle.rules.specs.Descriptions.{mostBoards, mostLines, mostKinds, mostExpressionWords, mostWays, mostWords, RelationLine, Sheet, Reading, good, refused, Front, next, relationLine, kindLine, section, bothRead, agreedSheet, read, describe}
 use Rattle.rules.proofs.Tests.{clash, and-T, T-and-left, T-and-right}
 use Rattle.rules.proofs.Readings.{need-passed, need-failed, need-test, need-rest, next-out}
 use Rattle.rules.proofs.Members.{All, append-left}
@@ -20,7 +20,7 @@ use Rattle.meanings.proofs.Outcomes.{relation-line, kind-line, first-line}
 use Rattle.returns.proofs.Sections.{IsLine, line, lineByLine, relation-section, Reads, lines-read}
 use Rattle.returns.proofs.Sections as sections
 use Rattle.reading.proofs.Making.{typed-lines}
-use Rattle.returns.proofs.Headers.{inRange, bothRead, read-described, never-misplaced}
+use Rattle.returns.proofs.Headers.{inRange, read-described, never-misplaced}
 use Rattle.returns.proofs.Brief.{brief-good}
 use Rattle.text_lines.proofs.Storing.{lines-few}
 use Rattle.sheet_texts.specs.Sheets.{Good}
@@ -78,7 +78,7 @@ in-range {v} {r} {k} w =
 
 module _ (v : ℕ) (rs ks : List (List ℕ)) where
   abbrev rest : Reading Sheet
-  rest = bothRead v (section (relationLine v) (length rs) (flatten rs)) (section (kindLine v) (length ks) (flatten ks))
+  rest = next (bothRead v (section (relationLine v) (length rs) (flatten rs)) (section (kindLine v) (length ks) (flatten ks))) agreedSheet
 
   -- too many lines
   many-refused : (mostLines < length rs) ⊎ (mostKinds < length ks) → read (describe v rs ks) ≡ refused 1
@@ -96,8 +96,9 @@ module _ (v : ℕ) (rs ks : List (List ℕ)) where
 
   good-lines : All IsLine rs → (s : Sheet) → read (describe v rs ks) ≡ good s → (ls : List RelationLine) × Reads (relationLine v) rs ls
   good-lines h s e =
-      let (ls, d, f) = next-out (section (relationLine v) (length rs) (flatten rs)) _ s
+      let (u, m, a) = next-out (bothRead v (section (relationLine v) (length rs) (flatten rs)) (section (kindLine v) (length ks) (flatten ks))) agreedSheet s
       (need-rest 1 (inRange v (length rs) (length ks)) rest s (sym (read-described v rs ks) ∙ e)) in
+      let (ls, d, f) = next-out (section (relationLine v) (length rs) (flatten rs)) _ u m in
       (ls, lines-read (relationLine v) rs ls (sym (relation-section v rs h) ∙ d))
 
 -- the first line that is refused refuses all

@@ -5,20 +5,13 @@ use mathlib.Core.Logic.{_↔_}
 use mathlib.Core.List.{List, _∷_, _++_, List·Memᴰ}
 use Prim.Native.Nat.{ℕ}
 use lib.Dec.{eqb}
-use lib.ListN.{length, getD}
-use Rattle.rules.specs.Descriptions.{KindLine, Sheet, Reading, good, need, next, numbersFit, offsetsFit, relationLines, kindLines, read, OneArity}
+use lib.ListN.{length}
+use Rattle.rules.specs.Descriptions.{KindLine, Sheet, good, meant, read, OneArity}
 use Rattle.rules.specs.Arrangements.{Alike}
 use Rattle.rules.specs.Closing.{agree}
 use Rattle.answers.specs.declared.Answer.{Answer}
 use Rattle.demands.specs.Sentences.{TableCall, EachCall}
 use Rattle.demands.specs.Texts.{RoomCall, EachRoom, EachSheet}
-
--- What 01 makes of the words, which lets kind lines of one code differ in number of ways: their meaning, or 1 to 5.
-unfoldable pub meant : List ℕ → Reading Sheet
-meant ws =
-    need 1 (numbersFit ws)
-    (need 2 (offsetsFit ws)
-    (next (relationLines ws) (λ ls. next (kindLines ws) (λ ks. good (record { boards = getD ws 0 0; lines = ls; kinds = ks })))))
 
 -- the first kind line that disagrees with an earlier one: it has its code and another number of ways, and the lines before it are of one arity
 pub record Disagreeing (ks : List KindLine) : Type 0 where
@@ -32,7 +25,7 @@ pub record Disagreeing (ks : List KindLine) : Type 0 where
   pub code : line .code ≡ earlier .code
   pub ways : length (line .ways) ≡ length (earlier .ways) → ⊥
 
--- none of 1 to 5 applies to the words, and a kind line disagrees
+-- none of 1 to 5 applies to the words, by what 01 makes of them, and a kind line disagrees
 abbrev pub Disagree : List ℕ → Type 0
 Disagree ws = (s : Sheet) × (meant ws ≡ good s) × Disagreeing (s .kinds)
 

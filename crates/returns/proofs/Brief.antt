@@ -7,21 +7,20 @@ use native.Mathlib.Omega.{arith}
 use borrow.Author.Tests.{leb-true, leb-false}
 use lib.Dec.{leb}
 use lib.ListN.{length, getD, length-map}
-use Rattle.rules.specs.Descriptions.{mostExpressionWords, mostWays, RelationLine, KindLine, Sheet, Reading, good, refused, Front, need, relationLine, kindLine, agreed, read, describe}
+use Rattle.rules.specs.Descriptions.{mostExpressionWords, mostWays, RelationLine, KindLine, Sheet, Reading, good, refused, Front, need, next, relationLine, kindLine, bothRead, agreed, agreedSheet, read, describe}
 use Rattle.rules.proofs.Members.{All}
 use Rattle.rules.proofs.Readings.{never, need-rest, next-out}
-use Rattle.rules.proofs.Arities.{agreed-out}
 use Rattle.rules.proofs.Lines.{relation-misfits, relation-out, kind-misfits, kind-out}
 use Rattle.typed.specs.Brief.{brief}
 use Rattle.typed.proofs.Brief.{brief-whole}
 use Rattle.returns.proofs.Sections.{IsLine, line, StandsAlone, leaving, relation-alone, kind-alone, lineByLine, section-lines, relation-section, kind-section, Reads, none, more, lines-read}
-use Rattle.returns.proofs.Headers.{inRange, bothRead, read-described}
+use Rattle.returns.proofs.Headers.{inRange, read-described}
 
 -- ---- the lines, each by itself
 
 -- words that describe lines are read by the numbers of boards and lines, and then line by line
 whole-read : (v : ℕ) (rs ks : List (List ℕ)) → All IsLine rs → All IsLine ks
-    → read (describe v rs ks) ≡ need 1 (inRange v (length rs) (length ks)) (bothRead v (lineByLine (relationLine v) rs) (lineByLine (kindLine v) ks))
+    → read (describe v rs ks) ≡ need 1 (inRange v (length rs) (length ks)) (next (bothRead v (lineByLine (relationLine v) rs) (lineByLine (kindLine v) ks)) agreedSheet)
 whole-read v rs ks h k = read-described v rs ks ∙ rw (relation-section v rs h, kind-section v ks k)
 
 -- where they are good, each line is read by itself
@@ -32,13 +31,12 @@ lines-good v rs ks h k s e =
     (need-rest 1 (inRange v (length rs) (length ks)) _ s (sym (whole-read v rs ks h k) ∙ e))
   where
     go : (a : Reading (List RelationLine)) (b : Reading (List KindLine)) → lineByLine (relationLine v) rs ≡ a → lineByLine (kindLine v) ks ≡ b
-        → bothRead v a b ≡ good s → Reads (relationLine v) rs (s .lines) × Reads (kindLine v) ks (s .kinds)
+        → next (bothRead v a b) agreedSheet ≡ good s → Reads (relationLine v) rs (s .lines) × Reads (kindLine v) ks (s .kinds)
     go (good ls) (good ms) p q d =
         let (ns, a, b) = next-out (agreed ms) _ s d in
-        let (all, one) = agreed-out ms ns a in
-        let same : record { boards = v; lines = ls; kinds = ns } ≡ s = cc in (
+        let same : record { boards = v; lines = ls; kinds = ms } ≡ s = cc in (
           lines-read (relationLine v) rs (s .lines) (p ∙ ap (λ (t : Sheet). good (t .lines)) same),
-          lines-read (kindLine v) ks (s .kinds) (q ∙ ap good all ∙ ap (λ (t : Sheet). good (t .kinds)) same),
+          lines-read (kindLine v) ks (s .kinds) (q ∙ ap (λ (t : Sheet). good (t .kinds)) same),
         )
     go (good ls) (refused n) p q d = never n s d
     go (refused n) b p q d = never n s d

@@ -8,7 +8,7 @@ use borrow.Author.Tests.{le-leb}
 use lib.Dec.{leb}
 use lib.ListN.{length, length-append}
 use lib.Seq.{take-at, drop-drop, drop-append-seam}
-use Rattle.rules.specs.Descriptions.{mostBoards, mostLines, mostKinds, RelationLine, KindLine, Sheet, Reading, good, refused, need, next, relationLine, kindLine, section, numbersFit, offsetsFit, relationLines, kindLines, agreed, read, describe}
+use Rattle.rules.specs.Descriptions.{mostBoards, mostLines, mostKinds, Sheet, Reading, good, refused, need, next, relationLine, kindLine, section, numbersFit, offsetsFit, relationLines, kindLines, bothRead, meant, agreed, agreedSheet, read, describe}
 use Rattle.rules.proofs.Tests.{clash, T-true}
 use Rattle.rules.proofs.Refusals.{Only, only-next, only-agreed, only-kinds, only-relations}
 use Rattle.rules.proofs.Headers.{places-in}
@@ -16,10 +16,6 @@ use Rattle.rules.proofs.Headers.{places-in}
 -- the numbers of boards and of lines are in range
 unfoldable pub inRange : ℕ → ℕ → ℕ → Bool
 inRange v r k = (leb 1 v && leb v mostBoards) && leb r mostLines && leb k mostKinds
-
--- a sheet of v boards, of what is read of its two sections
-abbrev pub bothRead : ℕ → Reading (List RelationLine) → Reading (List KindLine) → Reading Sheet
-bothRead v a b = next a (λ ls. next (next b agreed) (λ ks. good (record { boards = v; lines = ls; kinds = ks })))
 
 -- the header of a description of these lines: its offsets fit, its numbers are those of the lines, and its sections are the lines
 pub record Header (v : ℕ) (rs ks : List (List ℕ)) : Type 0 where
@@ -44,11 +40,15 @@ describe-header v rs ks =
 pub read-described : (v : ℕ) (rs ks : List (List ℕ))
     → read (describe v rs ks)
     ≡ need 1 (inRange v (length rs) (length ks))
-    (bothRead v (section (relationLine v) (length rs) (flatten rs)) (section (kindLine v) (length ks) (flatten ks)))
-unfolding read
+    (next (bothRead v (section (relationLine v) (length rs) (flatten rs)) (section (kindLine v) (length ks) (flatten ks))) agreedSheet)
+unfolding read meant
 read-described v rs ks =
     let h = describe-header v rs ks in
-    rw (h .numbers, h .placed, h .relations, h .kinds)
+    rw (h .numbers, h .placed, h .relations, h .kinds) (go (inRange v (length rs) (length ks)) _)
+  where
+    go : (b : Bool) (r : Reading Sheet) → next (need 1 b r) agreedSheet ≡ need 1 b (next r agreedSheet)
+    go true r = refl
+    go false r = refl
 
 -- ---- never refused with 2
 
@@ -61,10 +61,11 @@ pub never-misplaced : (v : ℕ) (rs ks : List (List ℕ)) → read (describe v r
 never-misplaced v rs ks e =
     let a = section (relationLine v) (length rs) (flatten rs) in
     let b = section (kindLine v) (length ks) (flatten ks) in
-    go (inRange v (length rs) (length ks)) (bothRead v a b)
+    go (inRange v (length rs) (length ks)) (next (bothRead v a b) agreedSheet)
+    (only-next Late (bothRead v a b) _
     (only-next Late a _ (only-relations Late (omega arith) (omega arith) (omega arith) v (length rs) (flatten rs))
-    (λ ls. only-next Late (next b agreed) _
-    (only-next Late b agreed (only-kinds Late (omega arith) (omega arith) v (length ks) (flatten ks)) (only-agreed Late (omega arith))) (λ ms. tt)))
+    (λ ls. only-next Late b _ (only-kinds Late (omega arith) (omega arith) v (length ks) (flatten ks)) (λ ms. tt)))
+    (λ s. only-next Late (agreed (s .kinds)) _ (only-agreed Late (omega arith) (s .kinds)) (λ ms. tt)))
     (sym (read-described v rs ks) ∙ e)
   where
     go : (b : Bool) (r : Reading Sheet) → Only Late r → need 1 b r ≡ refused 2 → ⊥

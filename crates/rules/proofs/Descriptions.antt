@@ -1,5 +1,5 @@
 -- What is read is well-formed, and reading refuses with 1 to 5 and 11 only. Assumes nothing.
-use mathlib.Core.Path.{_≡_, refl, sym, ap, _∙_, subst}
+use mathlib.Core.Path.{_≡_, sym, ap, _∙_, subst}
 use mathlib.Core.Bool.{_&&_}
 use mathlib.Core.Logic.{⊎-elim}
 use mathlib.Core.List.{List, [], _∷_, List·Memᴰ, List·Memᴰ·not-nil, List·Memᴰ·cases-cons}
@@ -7,11 +7,11 @@ use Prim.Native.Nat.{ℕ, zero, suc, _≤_, _<_}
 use native.Mathlib.Omega.{arith}
 use lib.Dec.{T, leb, eqb, leb→le, eqb→eq}
 use lib.ListN.{length, getD, take, drop}
-use Rattle.rules.specs.Descriptions.{mostWays, RelationLine, KindLine, Sheet, WellFormed, Reading, good, refused, Front, need, next, relationLine, kindLine, section, numbersFit, offsetsFit, agreed, OneArity, relationLines, kindLines, read, refusesDescription}
+use Rattle.rules.specs.Descriptions.{mostWays, RelationLine, KindLine, Sheet, WellFormed, Reading, good, refused, Front, need, next, relationLine, kindLine, section, numbersFit, offsetsFit, agreed, OneArity, relationLines, kindLines, meant, agreedSheet, read, refusesDescription}
 use Rattle.rules.proofs.Tests.{T-and-left, T-and-right, T-or}
 use Rattle.rules.proofs.Members.{All}
 use Rattle.rules.proofs.Readings.{never, need-test, need-rest, next-out}
-use Rattle.rules.proofs.Refusals.{Only, only-need, only-next, only-agreed, only-kinds, only-relations}
+use Rattle.rules.proofs.Refusals.{Only, only-next, only-agreed, only-meant}
 use Rattle.rules.proofs.Arities.{agreed-out}
 use Rattle.rules.proofs.Lines.{relation-out, kind-out, ways-length, boardsOnly-out}
 use Rattle.rules.proofs.Headers.{InRange, Placed, numbers-out, places-out}
@@ -75,35 +75,40 @@ pub record SheetRead (ws : List ℕ) (s : Sheet) : Type 0 where
   pub kinds : kindLines ws ≡ good (s .kinds)
   pub arity : OneArity (s .kinds)
 
-pub read-out : (ws : List ℕ) (s : Sheet) → read ws ≡ good s → SheetRead ws s
-unfolding read
-read-out ws s e =
+meant-out : (ws : List ℕ) (s : Sheet) → meant ws ≡ good s → OneArity (s .kinds) → SheetRead ws s
+unfolding meant
+meant-out ws s e one =
     let (ls, d, g) = next-out (relationLines ws) ruled s third in
-    let (ks, k, h) = next-out (next (kindLines ws) agreed) (λ ks. good (sheet ls ks)) s g in
-    let (js, a, b) = next-out (kindLines ws) agreed ks k in
+    let (ks, k, h) = next-out (kindLines ws) (λ ks. good (sheet ls ks)) s g in
     let same : sheet ls ks ≡ s = cc in
-    let (all, one) = agreed-out js ks b in
-    subst (SheetRead ws) same
-    (record {
+    record {
       numbers = numbers-out ws (need-test 1 (numbersFit ws) (need 2 (offsetsFit ws) (next (relationLines ws) ruled)) s e);
       places = places-out ws (need-test 2 (offsetsFit ws) (next (relationLines ws) ruled) s second);
-      boards = refl;
-      lines = d;
-      kinds = a ∙ ap good all;
-      arity = subst OneArity all one;
-    })
+      boards = ap (λ (t : Sheet). t .boards) same;
+      lines = d ∙ ap (λ (t : Sheet). good (t .lines)) same;
+      kinds = k ∙ ap (λ (t : Sheet). good (t .kinds)) same;
+      arity = one;
+    }
   where
     sheet : List RelationLine → List KindLine → Sheet
     sheet ls ks = record { boards = getD ws 0 0; lines = ls; kinds = ks }
 
     ruled : List RelationLine → Reading Sheet
-    ruled ls = next (next (kindLines ws) agreed) (λ ks. good (sheet ls ks))
+    ruled ls = next (kindLines ws) (λ ks. good (sheet ls ks))
 
     second : need 2 (offsetsFit ws) (next (relationLines ws) ruled) ≡ good s
     second = need-rest 1 (numbersFit ws) (need 2 (offsetsFit ws) (next (relationLines ws) ruled)) s e
 
     third : next (relationLines ws) ruled ≡ good s
     third = need-rest 2 (offsetsFit ws) (next (relationLines ws) ruled) s second
+
+pub read-out : (ws : List ℕ) (s : Sheet) → read ws ≡ good s → SheetRead ws s
+unfolding read
+read-out ws s e =
+    let (u, m, a) = next-out (meant ws) agreedSheet s e in
+    let (ks, k, h) = next-out (agreed (u .kinds)) (λ ks. good u) s a in
+    let same : u ≡ s = cc in
+    subst (SheetRead ws) same (meant-out ws u m (agreed-out (u .kinds) ks k .1))
 
 -- what is read is well-formed
 pub read-wellFormed : (ws : List ℕ) (s : Sheet) → read ws ≡ good s → WellFormed s
@@ -124,14 +129,10 @@ read-wellFormed ws s e =
 
 -- reading refuses with 1 to 5 and 11 only
 pub read-numbered : (ws : List ℕ) (n : ℕ) → read ws ≡ refused n → T (refusesDescription n)
-unfolding read relationLines kindLines
+unfolding read
 read-numbered ws n e =
     subst (Only P) e
-    (only-need P 1 (numbersFit ws) _ tt
-    (only-need P 2 (offsetsFit ws) _ tt
-    (only-next P (relationLines ws) _ (only-relations P tt tt tt (getD ws 0 0) (getD ws 1 0) _)
-    (λ ls. only-next P (next (kindLines ws) agreed) _
-    (only-next P (kindLines ws) agreed (only-kinds P tt tt (getD ws 0 0) (getD ws 2 0) _) (only-agreed P tt)) (λ ks. tt)))))
+    (only-next P (meant ws) _ (only-meant P tt tt tt tt tt ws) (λ s. only-next P (agreed (s .kinds)) _ (only-agreed P tt (s .kinds)) (λ ks. tt)))
   where
     P : ℕ → Type 0
     P m = T (refusesDescription m)

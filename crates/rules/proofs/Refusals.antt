@@ -3,9 +3,9 @@ use mathlib.Core.Bool.{Bool, true, false, _&&_}
 use mathlib.Core.List.{List, [], _∷_}
 use Prim.Native.Nat.{ℕ, zero, suc}
 use lib.Dec.{leb, ltb, eqb}
-use lib.ListN.{length, take}
+use lib.ListN.{length, getD, take}
 use Rattle.rules.specs.Expressions.{Value, value, malformed, expression}
-use Rattle.rules.specs.Descriptions.{mostExpressionWords, mostWays, KindLine, Reading, good, refused, Front, need, next, meaning, relationLine, boardsOnly, kindLine, section, firstDisagreeing, agreed}
+use Rattle.rules.specs.Descriptions.{mostExpressionWords, mostWays, KindLine, Reading, good, refused, Front, need, next, meaning, relationLine, boardsOnly, kindLine, section, numbersFit, offsetsFit, relationLines, kindLines, meant, firstDisagreeing, agreed}
 
 module _ (P : ℕ → Type 0) where
   -- P holds of the number of the refusal
@@ -61,3 +61,12 @@ module _ (P : ℕ → Type 0) where
 
         pub only-relations : (v n : ℕ) (ws : List ℕ) → Only (section (relationLine v) n ws)
         only-relations v = only-section (relationLine v) (only-relation v)
+
+        -- what 01 makes of a description
+        pub only-meant : P 1 → P 2 → (ws : List ℕ) → Only (meant ws)
+        unfolding meant relationLines kindLines
+        only-meant one two ws =
+            only-need 1 (numbersFit ws) _ one
+            (only-need 2 (offsetsFit ws) _ two
+            (only-next (relationLines ws) _ (only-relations (getD ws 0 0) (getD ws 1 0) _)
+            (λ ls. only-next (kindLines ws) _ (only-kinds (getD ws 0 0) (getD ws 2 0) _) (λ ks. tt))))

@@ -126,6 +126,14 @@ relationLines ws = section (relationLine (getD ws 0 0)) (getD ws 1 0) (take (get
 unfoldable pub kindLines : List ℕ → Reading (List KindLine)
 kindLines ws = section (kindLine (getD ws 0 0)) (getD ws 2 0) (drop (getD ws 4 0) ws)
 
+-- a sheet of v boards, of what is read of its two sections, the relation lines first
+abbrev pub bothRead : ℕ → Reading (List RelationLine) → Reading (List KindLine) → Reading Sheet
+bothRead v a b = next a (λ ls. next b (λ ks. good (record { boards = v; lines = ls; kinds = ks })))
+
+-- What 01 makes of a description: its meaning, or its first refusal: 1, 2, then the first faulty line.
+unfoldable pub meant : List ℕ → Reading Sheet
+meant ws = need 1 (numbersFit ws) (need 2 (offsetsFit ws) (bothRead (getD ws 0 0) (relationLines ws) (kindLines ws)))
+
 -- One kind code means one number of ways. A kind line disagrees with one that has its code and another number of ways.
 unfoldable pub disagrees : KindLine → KindLine → Bool
 disagrees k l = eqb (k .code) (l .code) && not (eqb (length (k .ways)) (length (l .ways)))
@@ -139,12 +147,12 @@ firstDisagreeing earlier (k ∷ ks) = elim (someOf (disagrees k) earlier) [ true
 unfoldable pub agreed : List KindLine → Reading (List KindLine)
 agreed ks = need 11 (eqb (firstDisagreeing [] ks) (length ks)) (good ks)
 
--- The meaning of a description, or its first refusal: 1, 2, then the first faulty line, then 11.
+abbrev pub agreedSheet : Sheet → Reading Sheet
+agreedSheet s = next (agreed (s .kinds)) (λ ks. good s)
+
+-- The meaning of a description, or its first refusal: those of 01, then 11.
 unfoldable pub read : List ℕ → Reading Sheet
-read ws =
-    need 1 (numbersFit ws)
-    (need 2 (offsetsFit ws)
-    (next (relationLines ws) (λ ls. next (next (kindLines ws) agreed) (λ ks. good (record { boards = getD ws 0 0; lines = ls; kinds = ks })))))
+read ws = next (meant ws) agreedSheet
 
 -- the numbers that a description is refused with: 1 to 5, and 11
 abbrev pub refusesDescription : ℕ → Bool

@@ -4,13 +4,15 @@ use mathlib.Core.Bool.{Bool, true, false}
 use mathlib.Core.List.{List}
 use Prim.Native.Nat.{ℕ, _-_, _≤_}
 use lib.ListN.{length, getD, take, drop}
-use Rattle.rules.specs.Descriptions.{RelationLine, KindLine, Sheet, Reading, good, refused, need, next, relationLine, kindLine, section, numbersFit, offsetsFit, relationLines, kindLines, agreed, read}
+use Rattle.rules.specs.Descriptions.{RelationLine, KindLine, Sheet, Reading, good, refused, need, next, relationLine, kindLine, section, numbersFit, offsetsFit, relationLines, kindLines, bothRead, meant, agreed, agreedSheet, read}
 use Rattle.rules.specs.Calls.{reading}
 use Rattle.rules.proofs.Tests.{clash, true-T}
 use Rattle.rules.proofs.Parts.{tail}
 use Rattle.rules.proofs.Headers.{Placed, places-out}
 use Rattle.answers.specs.declared.refusals.Refusal.{Refusal}
+use Rattle.answers.specs.Answers.{refusal}
 use Rattle.headers.specs.declared.Header.{Header}
+use Rattle.headers.specs.declared.HeaderFound.{HeaderFound}
 use Rattle.headers.specs.declared.HeaderFound.the-variants.{Good, Refused}
 use Rattle.sheet.specs.declared.sections.SectionFound.{SectionFound}
 use Rattle.sheet.specs.declared.sections.SectionFound.the-variants as sections
@@ -26,15 +28,16 @@ agreed-kinds ws = next (kindLines ws) agreed
 
 -- the rest of a description, once its header is good
 abbrev pub lines-read : List ℕ → Reading Sheet
-lines-read ws = next (relationLines ws) (λ ls. next (agreed-kinds ws) (λ ks. good (record { boards = getD ws 0 0; lines = ls; kinds = ks })))
+lines-read ws = next (bothRead (getD ws 0 0) (relationLines ws) (kindLines ws)) agreedSheet
 
 module _ (ws : List ℕ) where
   -- a header that is refused
   pub description-unheaded : (q : Refusal) → Refused q ≡ headerFound ws → Refused q ≡ descriptionFound ws
-  unfolding read
+  unfolding read meant
   description-unheaded q p = go (numbersFit ws) (offsetsFit ws) p
     where
-      go : (a b : Bool) → Refused q ≡ numbersFound ws (need 1 a (need 2 b (good ws))) → Refused q ≡ numbersFound ws (need 1 a (need 2 b (lines-read ws)))
+      go : (a b : Bool) → Refused q ≡ numbersFound ws (need 1 a (need 2 b (good ws)))
+          → Refused q ≡ numbersFound ws (next (need 1 a (need 2 b (bothRead (getD ws 0 0) (relationLines ws) (kindLines ws)))) agreedSheet)
       go true true e = clash (cc)
       go true false e = e
       go false b e = e
@@ -46,7 +49,7 @@ module _ (ws : List ℕ) where
     pub rest : read ws ≡ lines-read ws
 
   pub headed : (h : Header) → Good h ≡ headerFound ws → Headed h
-  unfolding read
+  unfolding read meant
   headed h p = go (numbersFit ws) (offsetsFit ws) refl refl p
     where
       go : (a b : Bool) → numbersFit ws ≡ a → offsetsFit ws ≡ b → Good h ≡ numbersFound ws (need 1 a (need 2 b (good ws))) → Headed h
@@ -83,8 +86,7 @@ module _ (ws : List ℕ) where
     pub description-no-lines : (q : Refusal) → sections.Refused q ≡ sectionFound (relationLines ws) → Refused q ≡ descriptionFound ws
     description-no-lines q p = rw (good-header .rest) (go (relationLines ws) p)
       where
-        go : (r : Reading (List RelationLine)) → sections.Refused q ≡ sectionFound r
-            → Refused q ≡ numbersFound {X = Sheet} ws (next r (λ ls. next (agreed-kinds ws) (λ ks. good (record { boards = getD ws 0 0; lines = ls; kinds = ks }))))
+        go : (r : Reading (List RelationLine)) → sections.Refused q ≡ sectionFound r → Refused q ≡ numbersFound ws (next (bothRead (getD ws 0 0) r (kindLines ws)) agreedSheet)
         go (good ls) e = clash (cc)
         go (refused n) e = cc
 
@@ -96,21 +98,24 @@ module _ (ws : List ℕ) where
           go (good ls) e = (ls, refl)
           go (refused n) e = clash (cc)
 
-      pub description-no-kinds : (q : Refusal) → sections.Refused q ≡ sectionFound (agreed-kinds ws) → Refused q ≡ descriptionFound ws
-      description-no-kinds q p = rw (good-header .rest, after-lines .1) (go (agreed-kinds ws) p)
+      -- what is found of the kind lines decides
+      by-kinds : (P : SectionFound → HeaderFound → Type 0) → ((n : ℕ) → P (sections.Refused (refusal n)) (Refused (refusal n))) → P sections.Filled (Good (numbers ws))
+          → P (sectionFound (agreed-kinds ws)) (descriptionFound ws)
+      by-kinds P f g = rw (good-header .rest, after-lines .1) (go (kindLines ws))
         where
-          go : (r : Reading (List KindLine)) → sections.Refused q ≡ sectionFound r
-              → Refused q ≡ numbersFound {X = Sheet} ws (next r (λ ks. good (record { boards = getD ws 0 0; lines = after-lines .0; kinds = ks })))
-          go (good ls) e = clash (cc)
-          go (refused n) e = cc
+          test : (s : Sheet) (r : Reading (List KindLine)) → P (sectionFound r) (numbersFound ws (next r (λ ks. good s)))
+          test s (good ks) = g
+          test s (refused n) = f n
+
+          go : (r : Reading (List KindLine)) → P (sectionFound (next r agreed)) (numbersFound ws (next (bothRead (getD ws 0 0) (good (after-lines .0)) r) agreedSheet))
+          go (good ks) = test (record { boards = getD ws 0 0; lines = after-lines .0; kinds = ks }) (agreed ks)
+          go (refused n) = f n
+
+      pub description-no-kinds : (q : Refusal) → sections.Refused q ≡ sectionFound (agreed-kinds ws) → Refused q ≡ descriptionFound ws
+      description-no-kinds q p = by-kinds (λ s h. sections.Refused q ≡ s → Refused q ≡ h) (λ n e. cc) (λ e. clash (cc)) p
 
       pub description-read : sections.Filled ≡ sectionFound (agreed-kinds ws) → Good h ≡ descriptionFound ws
-      description-read p = rw (good-header .rest, after-lines .1) (go (agreed-kinds ws) p)
-        where
-          go : (r : Reading (List KindLine)) → sections.Filled ≡ sectionFound r
-              → Good h ≡ numbersFound {X = Sheet} ws (next r (λ ks. good (record { boards = getD ws 0 0; lines = after-lines .0; kinds = ks })))
-          go (good ls) e = ap Good (good-header .is)
-          go (refused n) e = clash (cc)
+      description-read p = by-kinds (λ s d. sections.Filled ≡ s → Good h ≡ d) (λ n e. clash (cc)) (λ e. ap Good (good-header .is)) p
 
   -- what was found, as a number
   number-of : Reading Sheet → ℕ

@@ -6,6 +6,7 @@
 #include "filter.h"
 #include "talungbisay.h"
 
+/* A refusal has at most 62 bytes: its numbers have at most 10, 10 and 20 digits. */
 enum { FIRST_ROOM = 65536, REFUSAL_TEXT = 64 };
 
 static void say(const char *text)
@@ -59,14 +60,22 @@ void write_output(const char *program, const void *bytes, size_t n)
     }
 }
 
-int tell_refusal(uint64_t answer)
+/* Whether the count of this refusal is a place in the words. */
+static int has_place(uint32_t number)
+{
+    return (number >= TALUNG_OUT_OF_RANGE && number <= TALUNG_NO_EXPRESSION) || number == TALUNG_DISAGREES;
+}
+
+int tell_refusal(uint64_t answer, size_t line)
 {
     char text[REFUSAL_TEXT];
     uint32_t number = talung_number(answer);
-    if (number == TALUNG_NO_SHEET)
-        snprintf(text, sizeof text, "refused %u line %u\n", (unsigned)number, (unsigned)talung_count(answer));
-    else
-        snprintf(text, sizeof text, "refused %u\n", (unsigned)number);
+    int n = snprintf(text, sizeof text, "refused %u", (unsigned)number);
+    if (has_place(number))
+        n += snprintf(text + n, sizeof text - (size_t)n, " word %u", (unsigned)talung_count(answer));
+    if (line > 0)
+        n += snprintf(text + n, sizeof text - (size_t)n, " line %zu", line);
+    snprintf(text + n, sizeof text - (size_t)n, "\n");
     say(text);
     return 1;
 }

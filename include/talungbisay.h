@@ -1,8 +1,8 @@
 /* Talungbisay: finds radial trees of boards that fit a description, and checks those that somebody proposes.
  *
  * A call is lent a description, a table or both, or a typed sheet, with room for what it makes. It takes whatever they hold: what is malformed is refused by a
- * number. It keeps nothing, allocates nothing and always returns. A refusal leaves the lent table or room as it came. Calls on different tables or rooms may run
- * at the same time.
+ * number, and the refusal of a description says where. It keeps nothing, allocates nothing and always returns. A refusal leaves the lent table or room as it
+ * came. Calls on different tables or rooms may run at the same time.
  *
  * All that the caller answers for:
  *  - 'words' points to n words, 'table' to as many cells and 'text' to as many bytes as said; where a call writes words or text, to as many as its room. None
@@ -20,10 +20,12 @@
 extern "C" {
 #endif
 
-/* The most that a site has. */
+/* The most that a site and its description have. */
 enum {
     TALUNG_MOST_BOARDS = 16,
     TALUNG_MOST_CELLS = 256,
+    TALUNG_MOST_RELATION_LINES = 128,
+    TALUNG_MOST_KIND_LINES = 16,
     TALUNG_MOST_WORDS = 2486,
     TALUNG_MOST_TEXT = 16762 /* bytes of the text that talung_to_text writes; a text that is read may be longer */
 };
@@ -81,6 +83,19 @@ enum {
     TALUNG_NO_SHEET = 20       /* text: a line is malformed; the count is its number, from 1, or 4294967295 where that is smaller */
 };
 
+/* Where a refusal is. Refusals from 1 to 5 and TALUNG_DISAGREES are of the description, and their count is a place in it, an index from 0 into its n words: of
+ * the first word that breaks the rule or, where words are missing, the place just after the header, section or expression that is too short. The place is never
+ * above n, and it may be n, where there is no word to look at.
+ *
+ *     TALUNG_OUT_OF_RANGE   n, if it is below 6; else the first of words 0, 1 and 2 that is out of range
+ *     TALUNG_MISPLACED      3, unless it says 6; else 4, if the kind lines begin before word 6 or after the header's total; else 5, as that total is not n
+ *     TALUNG_UNFIT          a length or number of ways out of range; else the end of the section that a line runs past; or the first word left over
+ *     TALUNG_NO_BOARD       p, else q; of a kind line p, else the first of its ways that is no board
+ *     TALUNG_NO_EXPRESSION  a code above 7; the place just after an expression that breaks off; or the first word left over
+ *     TALUNG_DISAGREES      the number of ways of the first kind line that disagrees with an earlier one
+ *
+ * In talung_from_text it is a place in the words that the sheet makes: the header, then all relation lines, then all kind lines, each sort in its order. */
+
 /* Takes an answer apart: its number, TALUNG_OK or a refusal, is the low 32 bits, its count the high 32. The count is 0 where nothing else is said. */
 static inline uint32_t talung_number(uint64_t answer)
 {
@@ -94,25 +109,26 @@ static inline uint32_t talung_count(uint64_t answer)
 
 /* A table has V times V cells, a byte each; what p may be to q stands at V times p plus q. */
 
-/* Reads a description of n words. Answers TALUNG_OK if it is good, else a refusal from 1 to 5 or TALUNG_DISAGREES. */
+/* Reads a description of n words. Answers TALUNG_OK if it is good, else a refusal from 1 to 5 or TALUNG_DISAGREES, with its place. */
 uint64_t talung_read(const uint16_t *words, size_t n);
 
 /* Makes the table one of v boards of which nothing is known yet: each cell is TALUNG_ANY. Answers TALUNG_OK; or TALUNG_OUT_OF_RANGE where v is not 1 to 16,
- * whatever 32-bit number it is, then TALUNG_NO_TABLE where there are not v times v cells. What the cells hold before does not matter. */
+ * whatever 32-bit number it is, then TALUNG_NO_TABLE where there are not v times v cells. It takes no description, so the count is always 0. What the cells
+ * hold before does not matter. */
 uint64_t talung_fresh(uint32_t v, uint8_t *table, size_t cells);
 
 /* Strikes from the table what the rules exclude under the description: leaves the largest table inside it in which no rule strikes anything, and loses no
- * tree that fits. Answers TALUNG_OK, and counts the relations struck, 0 to 768; or a refusal from 1 to 5, TALUNG_DISAGREES, TALUNG_NO_TABLE or
- * TALUNG_CONTRADICTORY. */
+ * tree that fits. Answers TALUNG_OK, and counts the relations struck, 0 to 768; or a refusal from 1 to 5 or TALUNG_DISAGREES, with its place; or
+ * TALUNG_NO_TABLE or TALUNG_CONTRADICTORY. */
 uint64_t talung_close(const uint16_t *words, size_t n, uint8_t *table, size_t cells);
 
 /* Looks for a tree inside the table that fits the description, with at most as many tries as the budget, which is any number. Leaves the first one in the order
  * of its cells (p, q) with p < q, same before above before below before side: each cell is then a single relation. Answers TALUNG_OK, and counts the
- * tries made; or a refusal from 1 to 5, TALUNG_DISAGREES, TALUNG_NO_TABLE, TALUNG_NOWHERE or TALUNG_RAN_OUT. */
+ * tries made; or a refusal from 1 to 5 or TALUNG_DISAGREES, with its place; or TALUNG_NO_TABLE, TALUNG_NOWHERE or TALUNG_RAN_OUT. */
 uint64_t talung_search(const uint16_t *words, size_t n, uint8_t *table, size_t cells, uint32_t budget);
 
-/* Says whether the table is a tree that fits the description, whoever proposed it, and only reads it. Answers TALUNG_OK if it is; else a refusal from 1 to 5,
- * TALUNG_DISAGREES, TALUNG_NO_TABLE or TALUNG_NO_ARRANGEMENT. */
+/* Says whether the table is a tree that fits the description, whoever proposed it, and only reads it. Answers TALUNG_OK if it is; else a refusal from 1 to 5 or
+ * TALUNG_DISAGREES, with its place; or TALUNG_NO_TABLE or TALUNG_NO_ARRANGEMENT. */
 uint64_t talung_check(const uint16_t *words, size_t n, const uint8_t *table, size_t cells);
 
 /* A sheet is a description as people type it; docs/SHEETS.md shows how:
@@ -125,13 +141,14 @@ uint64_t talung_check(const uint16_t *words, size_t n, const uint8_t *table, siz
  * an operand, 'and' and 'or' between two, and parentheses; 'not' and 'inv' bind tightest, then 'and', then 'or', and each is joined from the left. A kind line
  * is p, a colon, the code, and the ways in parentheses. */
 
-/* Reads a sheet of so many bytes, of any length. Its description goes to the front of the words, and the answer counts them; room for TALUNG_MOST_WORDS is always
- * enough. Answers TALUNG_OK; or TALUNG_NO_SHEET for the first malformed line, wherever it is; then a refusal of the description, never TALUNG_MISPLACED; then
+/* Reads a sheet of so many bytes, of any length. Its description goes to the front of the words, and the answer counts them; room for TALUNG_MOST_WORDS is
+ * always enough. Answers TALUNG_OK; or TALUNG_NO_SHEET for the first malformed line, wherever it is, with its number; then a refusal of the description, with
+ * its place: TALUNG_OUT_OF_RANGE, at word 1 or 2 where there are too many lines of a sort, TALUNG_UNFIT, TALUNG_NO_BOARD or TALUNG_DISAGREES; then
  * TALUNG_NO_ROOM. Room past the description stays as it came. */
 uint64_t talung_from_text(const char *text, size_t bytes, uint16_t *words, size_t room);
 
 /* Writes a description as a sheet, with only the parentheses that are needed. It goes to the front of the text, without a zero byte at its end, and the answer counts
- * its bytes; room for TALUNG_MOST_TEXT is always enough. Answers TALUNG_OK; or a refusal from 1 to 5, then TALUNG_DISAGREES, then
+ * its bytes; room for TALUNG_MOST_TEXT is always enough. Answers TALUNG_OK; or a refusal from 1 to 5 or TALUNG_DISAGREES, with its place; then
  * TALUNG_NO_ROOM. Room past the sheet stays as it came. Reading it back gives the same description. */
 uint64_t talung_to_text(const uint16_t *words, size_t n, char *text, size_t room);
 

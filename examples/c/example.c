@@ -47,14 +47,15 @@ static const uint16_t crowded_words[] = {
 };
 static const struct site crowded = {"A meter beside all three ways", panel_names, 5, crowded_words, sizeof crowded_words / sizeof *crowded_words};
 
-/* Of two boards there is no board 2: they are numbered from 0. */
+/* Of two boards there is no board 2: they are numbered from 0. The refusal says where it stands, at word 7. */
 static const uint16_t slip_words[] = {
     2, 1, 0, 6, 10, 10,
     1, 2, 1, TALUNG_IS_ABOVE,
 };
 static const struct site slip = {"A slip of the pen", pair_names, 2, slip_words, sizeof slip_words / sizeof *slip_words};
 
-/* One kind code means one number of ways: of code 7 there is no panel with one way where another has two. */
+/* One kind code means one number of ways: of code 7 there is no panel with one way where another has two. The refusal says where, at word 13, the number of
+ * ways of the later panel. */
 static const char *const parts_names[] = {"main", "kitchen", "workshop", "annex", "pump"};
 static const uint16_t parts_words[] = {
     5, 0, 2, 6, 6, 15,
@@ -83,13 +84,26 @@ static const char *meaning(uint64_t answer)
     }
 }
 
+/* Says what an answer means; of a description that is refused also the word, and of a malformed sheet the line. */
+static void print_meaning(uint64_t answer)
+{
+    uint32_t number = talung_number(answer);
+    printf("%s", meaning(answer));
+    if ((number >= TALUNG_OUT_OF_RANGE && number <= TALUNG_NO_EXPRESSION) || number == TALUNG_DISAGREES)
+        printf(": word %u", (unsigned)talung_count(answer));
+    if (number == TALUNG_NO_SHEET)
+        printf(": line %u", (unsigned)talung_count(answer));
+}
+
 /* Says that the call was refused, if it was, and sees that it has left the table as it was lent. */
 static int refused(const char *call, uint64_t answer, const struct site *s, const uint8_t *table, const uint8_t *lent)
 {
     if (talung_number(answer) == TALUNG_OK)
         return 0;
     assert(memcmp(table, lent, s->boards * s->boards) == 0);
-    printf("  %s: refused with %u, %s; the table is as it came\n", call, (unsigned)talung_number(answer), meaning(answer));
+    printf("  %s: refused with %u, ", call, (unsigned)talung_number(answer));
+    print_meaning(answer);
+    printf("; the table is as it came\n");
     return 1;
 }
 
@@ -125,7 +139,9 @@ static void solve(const struct site *s, uint8_t *table)
     memcpy(lent, table, cells);
 
     printf("%s\n", s->title);
-    printf("  reading: %s\n", meaning(talung_read(s->words, s->n)));
+    printf("  reading: ");
+    print_meaning(talung_read(s->words, s->n));
+    printf("\n");
 
     answer = talung_close(s->words, s->n, table, cells);
     if (!refused("closing", answer, s, table, lent)) {
@@ -163,21 +179,25 @@ static void type(const struct site *s)
     assert(memcmp(words, s->words, s->n * sizeof *words) == 0);
 }
 
-/* Reads a sheet, and says what it comes to. */
+/* Reads a sheet, and says what it comes to. A refusal's word is one of those that the sheet makes. */
 static void read_sheet(const char *title, const char *text, size_t bytes)
 {
     uint16_t words[TALUNG_MOST_WORDS];
     uint64_t made = talung_from_text(text, bytes, words, TALUNG_MOST_WORDS);
-    if (talung_number(made) == TALUNG_NO_SHEET)
-        printf("%s: refused with %u, %s: line %u\n", title, (unsigned)talung_number(made), meaning(made), (unsigned)talung_count(made));
-    else
-        printf("%s: %s, words made: %u\n", title, meaning(made), (unsigned)talung_count(made));
+    if (talung_number(made) == TALUNG_OK) {
+        printf("%s: good, words made: %u\n", title, (unsigned)talung_count(made));
+        return;
+    }
+    printf("%s: refused with %u, ", title, (unsigned)talung_number(made));
+    print_meaning(made);
+    printf("\n");
 }
 
 int main(void)
 {
     static const char at_or_above[] = "boards 2\n0 same or above 1\n";
     static const char slip_of_the_key[] = "boards 2\n0 at or above 1\n";
+    static const char slip_in_a_panel[] = "boards 3\n0 : 7 ( 1 3 )\n0 above 2\n";
     uint8_t table[TALUNG_MOST_CELLS];
     solve(&pair, table);
     solve(&panel, table);
@@ -188,5 +208,6 @@ int main(void)
     type(&panel);
     read_sheet("'same or above'", at_or_above, sizeof at_or_above - 1);
     read_sheet("'at or above'", slip_of_the_key, sizeof slip_of_the_key - 1);
+    read_sheet("A panel with board 3 of three boards", slip_in_a_panel, sizeof slip_in_a_panel - 1);
     return 0;
 }

@@ -2,14 +2,15 @@
 
 use crate::arrangement::is_arrangement;
 use crate::closing::closed;
-use crate::description::{self, Description, MOST_BOARDS};
+use crate::description::{self, Description, Refusal, MOST_BOARDS};
 use crate::drafts::Draft;
 use crate::relations::ALL;
 use crate::search::{self, Ending};
 use crate::table::Table;
 use crate::typed;
 
-/// Number 0 is success, else the refusal number; the count is 0 unless said.
+/// Number 0 is success, else the refusal number; the count is 0 unless said. Of a refusal of the description, 1 to 5
+/// and 11, it is the place in the words.
 #[derive(Clone, Copy, PartialEq, Debug)]
 pub struct Answer {
     pub number: u32,
@@ -24,11 +25,17 @@ fn refusal(number: u32) -> Answer {
     Answer { number, count: 0 }
 }
 
+impl From<Refusal> for Answer {
+    fn from(refused: Refusal) -> Answer {
+        Answer { number: refused.number, count: refused.place as u32 }
+    }
+}
+
 /// Reads a description: 0, or 1 to 5, then 11.
 pub fn read(words: &[u16]) -> Answer {
     match description::read(words) {
         Ok(_) => success(0),
-        Err(number) => refusal(number),
+        Err(refused) => refused.into(),
     }
 }
 
@@ -45,9 +52,9 @@ pub fn fresh(v: u32, cells: &mut [u8]) -> Answer {
 }
 
 /// The description and the lent table, or the first refusal: 1 to 5, then 11, then 6.
-fn read_both(words: &[u16], cells: &[u8]) -> Result<(Description, Table), u32> {
+fn read_both(words: &[u16], cells: &[u8]) -> Result<(Description, Table), Answer> {
     let description = description::read(words)?;
-    let table = Table::lent(description.boards, cells)?;
+    let table = Table::lent(description.boards, cells).map_err(refusal)?;
     Ok((description, table))
 }
 
@@ -56,7 +63,7 @@ fn read_both(words: &[u16], cells: &[u8]) -> Result<(Description, Table), u32> {
 pub fn close(words: &[u16], cells: &mut [u8]) -> Answer {
     let (description, table) = match read_both(words, cells) {
         Ok(both) => both,
-        Err(number) => return refusal(number),
+        Err(refused) => return refused,
     };
     match closed(&description, &table) {
         Some(closed) => {
@@ -72,7 +79,7 @@ pub fn close(words: &[u16], cells: &mut [u8]) -> Answer {
 pub fn search(words: &[u16], cells: &mut [u8], budget: u32) -> Answer {
     let (description, table) = match read_both(words, cells) {
         Ok(both) => both,
-        Err(number) => return refusal(number),
+        Err(refused) => return refused,
     };
     match search::search(&description, &table, budget) {
         (Ending::Found(arrangement), tries) => {
@@ -89,30 +96,26 @@ pub fn check(words: &[u16], cells: &[u8]) -> Answer {
     match read_both(words, cells) {
         Ok((description, table)) if is_arrangement(&description, &table) => success(0),
         Ok(_) => refusal(10),
-        Err(number) => refusal(number),
+        Err(refused) => refused,
     }
 }
 
 /// The words that a text makes: 20 with the number of the first malformed line (the largest count if it
-/// does not fit), then 1 to 5, then 11.
+/// does not fit), then 1 to 5, then 11, with the place in those words.
 pub fn words_of_text(text: &[u8]) -> Result<Vec<u16>, Answer> {
     let draft = match typed::read(text) {
         Ok(draft) => typed::cut(draft),
         Err(line) => return Err(Answer { number: 20, count: u32::try_from(line).unwrap_or(u32::MAX) }),
     };
     let words = draft.words();
-    match description::read(&words) {
-        Ok(_) => Ok(words),
-        Err(number) => Err(refusal(number)),
-    }
+    description::read(&words)?;
+    Ok(words)
 }
 
 /// The text of a description, or 1 to 5, then 11.
 pub fn text_of_words(words: &[u16]) -> Result<Vec<u8>, Answer> {
-    match description::read(words) {
-        Ok(_) => Ok(typed::written(&Draft::of_words(words))),
-        Err(number) => Err(refusal(number)),
-    }
+    description::read(words)?;
+    Ok(typed::written(&Draft::of_words(words)))
 }
 
 /// Puts the words of a text at the front of the lent room and counts them; 20, 1 to 5, 11, then 19.

@@ -327,11 +327,11 @@ fn escaped_text(bytes: &[u8]) -> String {
     format!("{}{cut}", shown.escape_ascii())
 }
 
-/// The lines of a good description, each with its meaning; else the refusal.
+/// The lines of a good description, each with its meaning; else the refusal and its place.
 fn description_text(words: &[u16]) -> String {
     let description = match description::read(words) {
         Ok(description) => description,
-        Err(number) => return format!("  refused {number}\n"),
+        Err(refused) => return format!("  refused {} at word {}\n", refused.number, refused.place),
     };
     let mut text = format!("  {} boards\n", description.boards);
     for line in &description.relation_lines {

@@ -5,6 +5,7 @@ use crate::cases::{answer_text, answered, readable, Answered, Call, Case, CALLS}
 use crate::description;
 use crate::making::Maker;
 use crate::relations::{converse, ALL};
+use std::collections::HashSet;
 use std::io::{Read, Write};
 use std::process::{Command, Stdio};
 
@@ -14,11 +15,13 @@ const BATCH: usize = 1_000;
 /// The numbers that have a column each in a tally; one more column is for `input`.
 const NUMBERS: [u32; 14] = [0, 1, 2, 3, 4, 5, 6, 7, 8, 9, 10, 11, 19, 20];
 
-/// How often each call gave each number (the last column: input), and what else was met.
+/// How often each call gave each number (the last column: input), at how many places, and what else was met.
 #[derive(Default)]
 pub struct Tally {
     cases: usize,
     numbers: [[usize; NUMBERS.len() + 1]; CALLS.len()],
+    /// The places told with each number.
+    places: [HashSet<u32>; NUMBERS.len() + 1],
     found_after_tries: usize,
     none_after_tries: usize,
     many_boards: usize,
@@ -37,6 +40,9 @@ impl Tally {
         let number =
             if case.call == Call::Site { number_printed(&answered.printed) } else { Some(answered.answer.number) };
         self.numbers[case.call as usize][column(number)] += 1;
+        if tells_place(case.call, answered.answer.number) {
+            self.places[column(number)].insert(answered.answer.count);
+        }
         if case.call == Call::Search && answered.answer.count > 0 {
             self.found_after_tries += (answered.answer.number == 0) as usize;
             self.none_after_tries += (answered.answer.number == 8) as usize;
@@ -81,12 +87,10 @@ impl Tally {
         }
         text.push_str("   input\n");
         for call in CALLS {
-            text.push_str(&format!("{:<7}", call.name()));
-            for count in self.numbers[call as usize] {
-                text.push_str(&format!("{count:>8}"));
-            }
-            text.push('\n');
+            text.push_str(&row_text(call.name(), &self.numbers[call as usize]));
         }
+        let places: Vec<usize> = self.places.iter().map(HashSet::len).collect();
+        text.push_str(&row_text("places", &places));
         let rest = [
             ("cases", self.cases),
             ("searches that found after tries", self.found_after_tries),
@@ -102,6 +106,17 @@ impl Tally {
         rest.iter().for_each(|(name, count)| text.push_str(&format!("{name}: {count}\n")));
         text
     }
+}
+
+/// A row of the table.
+fn row_text(name: &str, counts: &[usize]) -> String {
+    let columns: String = counts.iter().map(|count| format!("{count:>8}")).collect();
+    format!("{name:<7}{columns}\n")
+}
+
+/// Whether the count of an answer to the call with this number is a place in the words.
+fn tells_place(call: Call, number: u32) -> bool {
+    !matches!(call, Call::Fresh | Call::Site) && matches!(number, 1..=5 | 11)
 }
 
 /// The column of a number; the last is for all that have none of their own, and for no number.

@@ -90,6 +90,22 @@ impl Draft {
         words
     }
 
+    /// The places of the lengths and of the numbers of ways among the words.
+    pub fn counts(&self) -> Vec<usize> {
+        let mut counts = Vec::new();
+        let mut start = HEADER;
+        for line in &self.relations {
+            counts.push(start + 2);
+            start += 3 + line.expression.len();
+        }
+        start += self.left_over[0].len();
+        for line in &self.kinds {
+            counts.push(start + 2);
+            start += 3 + line.ways.len();
+        }
+        counts
+    }
+
     /// The same description with each board renamed and with so many boards in all.
     pub fn renamed(&self, boards: usize, names: &[u16]) -> Draft {
         let name = |board: u16| names.get(board as usize).copied().unwrap_or(board);

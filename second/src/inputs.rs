@@ -31,7 +31,7 @@ fn all() -> Vec<(String, Vec<u8>)> {
     for (name, draft) in good_drafts() {
         inputs.push((name.to_string(), little_endian_bytes(&draft.words())));
     }
-    for (name, words) in refused_runs() {
+    for (name, words, ..) in refused_runs() {
         inputs.push((format!("refused-{name}"), little_endian_bytes(&words)));
     }
     inputs.extend(lengths());

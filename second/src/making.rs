@@ -64,13 +64,13 @@ fn all_cases(chance: &mut Chance) -> Vec<Case> {
 
 /// One case or several that belong together; at times none, if a search would take long.
 fn table_cases(chance: &mut Chance) -> Vec<Case> {
-    match chance.below(103) {
-        0..=12 => refused_cases(chance),
-        13..=16 => vec![Case::read(&any_sheet(chance).draft.words())],
-        17..=20 => vec![fresh_case(chance)],
-        21..=47 => vec![close_case(chance)],
-        48..=72 => search_cases(chance),
-        73..=91 => vec![check_case(chance)],
+    match chance.below(111) {
+        0..=20 => refused_cases(chance),
+        21..=24 => vec![Case::read(&any_sheet(chance).draft.words())],
+        25..=28 => vec![fresh_case(chance)],
+        29..=55 => vec![close_case(chance)],
+        56..=80 => search_cases(chance),
+        81..=99 => vec![check_case(chance)],
         _ => site_cases(chance),
     }
 }

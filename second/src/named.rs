@@ -1,4 +1,5 @@
-//! Descriptions with names: those to try, those at the limits, and those refused.
+//! Descriptions with names: those to try, those at the limits, and those refused, with number and place worked out by
+//! hand.
 
 use crate::drafts::Draft;
 use crate::named_kinds::{agreeing_kinds, refused_kinds};
@@ -141,44 +142,46 @@ pub fn longest() -> Draft {
     draft
 }
 
-/// All refused runs of words with names.
-pub fn refused_runs() -> Vec<(&'static str, Vec<u16>)> {
-    let kinds = refused_kinds().into_iter().map(|(name, words, _)| (name, words)).collect();
-    [refused_headers(), refused_lines(), refused_orders(), kinds].concat()
+/// A run of words that is refused, with the number and the place.
+pub type RefusedRun = (&'static str, Vec<u16>, u32, u32);
+
+/// All refused runs of words with names, those of each place and the longest apart.
+pub fn refused_runs() -> Vec<RefusedRun> {
+    [refused_headers(), refused_lines(), refused_orders(), refused_kinds()].concat()
 }
 
 /// Refusals 1 and 2.
-fn refused_headers() -> Vec<(&'static str, Vec<u16>)> {
+fn refused_headers() -> Vec<RefusedRun> {
     let lines_129 = (0..129).fold(Draft::of(2), |draft, _| draft.line(0, 1, &[0]));
     let kinds_17 = (0..17).fold(Draft::of(2), |draft, _| draft.kind(0, 5, &[]));
     vec![
-        ("no-words", vec![]),
-        ("one-word", vec![1]),
-        ("five-words", vec![1, 0, 0, 6, 6]),
-        ("no-boards", Draft::of(0).words()),
-        ("seventeen-boards", Draft::of(17).words()),
-        ("boards-65535", vec![65_535, 0, 0, 6, 6, 6]),
-        ("boards-257", vec![257, 0, 0, 6, 6, 6]),
-        ("relation-lines-129", lines_129.words()),
-        ("relation-lines-65535", vec![1, 65_535, 0, 6, 6, 6]),
-        ("kind-lines-17", kinds_17.words()),
-        ("kind-lines-256", vec![1, 0, 256, 6, 6, 6]),
-        ("relation-offset-5", vec![1, 0, 0, 5, 6, 6]),
-        ("relation-offset-7", vec![1, 0, 0, 7, 6, 6]),
-        ("relation-offset-7-of-7", vec![1, 0, 0, 7, 7, 7, 0]),
-        ("kind-offset-5", vec![1, 0, 0, 6, 5, 6]),
-        ("kind-offset-above-total", vec![1, 0, 0, 6, 7, 6]),
-        ("kind-offset-65535", vec![1, 0, 0, 6, 65_535, 6]),
-        ("total-too-small", vec![1, 0, 0, 6, 6, 6, 0]),
-        ("total-too-large", vec![1, 0, 0, 6, 6, 7]),
-        ("total-5", vec![1, 0, 0, 6, 5, 5]),
-        ("all-words-zero", vec![0; 6]),
-        ("all-words-65535", vec![65_535; 6]),
+        ("no-words", vec![], 1, 0),
+        ("one-word", vec![1], 1, 1),
+        ("five-words", vec![1, 0, 0, 6, 6], 1, 5),
+        ("no-boards", Draft::of(0).words(), 1, 0),
+        ("seventeen-boards", Draft::of(17).words(), 1, 0),
+        ("boards-65535", vec![65_535, 0, 0, 6, 6, 6], 1, 0),
+        ("boards-257", vec![257, 0, 0, 6, 6, 6], 1, 0),
+        ("relation-lines-129", lines_129.words(), 1, 1),
+        ("relation-lines-65535", vec![1, 65_535, 0, 6, 6, 6], 1, 1),
+        ("kind-lines-17", kinds_17.words(), 1, 2),
+        ("kind-lines-256", vec![1, 0, 256, 6, 6, 6], 1, 2),
+        ("relation-offset-5", vec![1, 0, 0, 5, 6, 6], 2, 3),
+        ("relation-offset-7", vec![1, 0, 0, 7, 6, 6], 2, 3),
+        ("relation-offset-7-of-7", vec![1, 0, 0, 7, 7, 7, 0], 2, 3),
+        ("kind-offset-5", vec![1, 0, 0, 6, 5, 6], 2, 4),
+        ("kind-offset-above-total", vec![1, 0, 0, 6, 7, 6], 2, 4),
+        ("kind-offset-65535", vec![1, 0, 0, 6, 65_535, 6], 2, 4),
+        ("total-too-small", vec![1, 0, 0, 6, 6, 6, 0], 2, 5),
+        ("total-too-large", vec![1, 0, 0, 6, 6, 7], 2, 5),
+        ("total-5", vec![1, 0, 0, 6, 5, 5], 2, 4),
+        ("all-words-zero", vec![0; 6], 1, 0),
+        ("all-words-65535", vec![65_535; 6], 1, 0),
     ]
 }
 
 /// Refusals 3, 4 and 5, one fault each.
-fn refused_lines() -> Vec<(&'static str, Vec<u16>)> {
+fn refused_lines() -> Vec<RefusedRun> {
     let good = Draft::of(2).line(0, 1, &[1]);
     let left = |section: usize, words: &[u16]| {
         let mut draft = good.clone().kind(0, 5, &[1]);
@@ -186,38 +189,38 @@ fn refused_lines() -> Vec<(&'static str, Vec<u16>)> {
         draft.words()
     };
     vec![
-        ("relation-line-missing", vec![2, 1, 0, 6, 6, 6]),
-        ("relation-line-of-two-words", vec![2, 1, 0, 6, 8, 8, 0, 1]),
-        ("relation-line-without-expression", vec![2, 1, 0, 6, 9, 9, 0, 1, 1]),
-        ("relation-line-into-kind-lines", vec![2, 1, 1, 6, 9, 13, 0, 1, 1, 0, 5, 1, 1]),
-        ("length-0", good.clone().line(0, 1, &[]).words()),
-        ("expression-words-16", Draft::of(2).line(0, 1, &[6, 6, 6, 6, 6, 6, 6, 6, 6, 6, 6, 6, 6, 6, 6, 1]).words()),
-        ("length-65535", vec![2, 1, 0, 6, 10, 10, 0, 1, 65_535, 1]),
-        ("left-over-after-relation-lines", left(0, &[0])),
-        ("left-over-relation-line", left(0, &[0, 1, 1, 0])),
-        ("left-over-after-kind-lines", left(1, &[0])),
-        ("left-over-kind-line", left(1, &[0, 5, 0])),
-        ("kind-line-missing", vec![2, 0, 1, 6, 6, 6]),
-        ("kind-line-of-two-words", vec![2, 0, 1, 6, 6, 8, 0, 5]),
-        ("kind-line-past-its-section", vec![2, 0, 1, 6, 6, 9, 0, 5, 1]),
-        ("nine-ways", Draft::of(16).kind(0, 5, &[1, 2, 3, 4, 5, 6, 7, 8, 9]).words()),
-        ("ways-65535", vec![2, 0, 1, 6, 6, 9, 0, 5, 65_535]),
-        ("first-board-too-high", Draft::of(2).line(2, 1, &[1]).words()),
-        ("second-board-too-high", Draft::of(2).line(0, 2, &[1]).words()),
-        ("board-65535", Draft::of(2).line(65_535, 0, &[1]).words()),
-        ("panel-too-high", Draft::of(2).kind(2, 5, &[1]).words()),
-        ("way-too-high", Draft::of(3).kind(0, 5, &[1, 3]).words()),
-        ("code-8", Draft::of(2).line(0, 1, &[8]).words()),
-        ("code-257", Draft::of(2).line(0, 1, &[257]).words()),
-        ("operand-missing", Draft::of(2).line(0, 1, &[4, 0]).words()),
-        ("operand-of-not-missing", Draft::of(2).line(0, 1, &[6]).words()),
-        ("word-too-many", Draft::of(2).line(0, 1, &[0, 0]).words()),
-        ("operand-in-next-line", Draft::of(2).line(0, 1, &[4, 0]).line(0, 1, &[1]).words()),
+        ("relation-line-missing", vec![2, 1, 0, 6, 6, 6], 3, 6),
+        ("relation-line-of-two-words", vec![2, 1, 0, 6, 8, 8, 0, 1], 3, 8),
+        ("relation-line-without-expression", vec![2, 1, 0, 6, 9, 9, 0, 1, 1], 3, 9),
+        ("relation-line-into-kind-lines", vec![2, 1, 1, 6, 9, 13, 0, 1, 1, 0, 5, 1, 1], 3, 9),
+        ("length-0", good.clone().line(0, 1, &[]).words(), 3, 12),
+        ("expression-words-16", Draft::of(2).line(0, 1, &[[6; 15].as_slice(), &[1]].concat()).words(), 3, 8),
+        ("length-65535", vec![2, 1, 0, 6, 10, 10, 0, 1, 65_535, 1], 3, 8),
+        ("left-over-after-relation-lines", left(0, &[0]), 3, 10),
+        ("left-over-relation-line", left(0, &[0, 1, 1, 0]), 3, 10),
+        ("left-over-after-kind-lines", left(1, &[0]), 3, 14),
+        ("left-over-kind-line", left(1, &[0, 5, 0]), 3, 14),
+        ("kind-line-missing", vec![2, 0, 1, 6, 6, 6], 3, 6),
+        ("kind-line-of-two-words", vec![2, 0, 1, 6, 6, 8, 0, 5], 3, 8),
+        ("kind-line-past-its-section", vec![2, 0, 1, 6, 6, 9, 0, 5, 1], 3, 9),
+        ("nine-ways", Draft::of(16).kind(0, 5, &[1, 2, 3, 4, 5, 6, 7, 8, 9]).words(), 3, 8),
+        ("ways-65535", vec![2, 0, 1, 6, 6, 9, 0, 5, 65_535], 3, 8),
+        ("first-board-too-high", Draft::of(2).line(2, 1, &[1]).words(), 4, 6),
+        ("second-board-too-high", Draft::of(2).line(0, 2, &[1]).words(), 4, 7),
+        ("board-65535", Draft::of(2).line(65_535, 0, &[1]).words(), 4, 6),
+        ("panel-too-high", Draft::of(2).kind(2, 5, &[1]).words(), 4, 6),
+        ("way-too-high", Draft::of(3).kind(0, 5, &[1, 3]).words(), 4, 10),
+        ("code-8", Draft::of(2).line(0, 1, &[8]).words(), 5, 9),
+        ("code-257", Draft::of(2).line(0, 1, &[257]).words(), 5, 9),
+        ("operand-missing", Draft::of(2).line(0, 1, &[4, 0]).words(), 5, 11),
+        ("operand-of-not-missing", Draft::of(2).line(0, 1, &[6]).words(), 5, 10),
+        ("word-too-many", Draft::of(2).line(0, 1, &[0, 0]).words(), 5, 10),
+        ("operand-in-next-line", Draft::of(2).line(0, 1, &[4, 0]).line(0, 1, &[1]).words(), 5, 11),
     ]
 }
 
 /// Several faults, of which the first in order decides.
-fn refused_orders() -> Vec<(&'static str, Vec<u16>)> {
+fn refused_orders() -> Vec<RefusedRun> {
     let mut left_over_then_panel = Draft::of(2).line(0, 1, &[1]).kind(2, 5, &[]);
     left_over_then_panel.left_over[0] = vec![0];
     let mut panel_then_left_over = Draft::of(2).kind(2, 5, &[]);
@@ -225,57 +228,92 @@ fn refused_orders() -> Vec<(&'static str, Vec<u16>)> {
     let mut code_then_left_over = Draft::of(2).line(0, 1, &[8]);
     code_then_left_over.left_over[0] = vec![0];
     vec![
-        ("1-before-2", vec![17, 0, 0, 7, 5, 9]),
-        ("2-before-3", vec![2, 1, 0, 6, 6, 7]),
-        ("3-before-4-and-5-in-a-line", Draft::of(2).line(2, 9, &[8; 16]).words()),
-        ("4-before-5-in-a-line", Draft::of(2).line(0, 2, &[8]).words()),
-        ("5-in-line-0-before-3-in-line-1", Draft::of(2).line(0, 1, &[8]).line(0, 1, &[]).words()),
-        ("5-in-line-0-before-4-in-line-1", Draft::of(2).line(0, 1, &[8]).line(2, 1, &[1]).words()),
-        ("4-in-line-0-before-3-in-line-1", Draft::of(2).line(0, 2, &[1]).line(0, 1, &[]).words()),
-        ("4-in-line-0-before-5-in-line-1", Draft::of(2).line(0, 2, &[1]).line(0, 1, &[9]).words()),
-        ("3-in-line-0-before-4-in-line-1", Draft::of(2).line(0, 1, &[]).line(0, 2, &[1]).words()),
-        ("5-before-left-over", code_then_left_over.words()),
-        ("left-over-before-4-in-kind-line", left_over_then_panel.words()),
-        ("4-in-kind-line-before-left-over", panel_then_left_over.words()),
-        ("5-before-3-in-kind-line", Draft::of(2).line(0, 1, &[8]).kind(0, 5, &[1; 9]).words()),
-        ("5-before-4-in-kind-line", Draft::of(2).line(0, 1, &[0, 0]).kind(0, 5, &[2]).words()),
-        ("3-before-4-in-a-kind-line", Draft::of(2).kind(2, 5, &[3; 9]).words()),
-        ("4-in-kind-line-0-before-3-in-1", Draft::of(2).kind(0, 5, &[2]).kind(0, 5, &[1; 9]).words()),
-        ("3-in-kind-line-0-before-4-in-1", Draft::of(2).kind(0, 5, &[1; 9]).kind(0, 5, &[2]).words()),
-        ("length-16-past-its-section", vec![2, 1, 0, 6, 9, 9, 2, 2, 16]),
-        ("short-line-with-high-board", vec![2, 1, 0, 6, 8, 8, 9, 9]),
-        ("short-kind-line-with-high-way", vec![2, 0, 1, 6, 6, 10, 0, 5, 2, 9]),
+        ("1-before-2", vec![17, 0, 0, 7, 5, 9], 1, 0),
+        ("2-before-3", vec![2, 1, 0, 6, 6, 7], 2, 5),
+        ("3-before-4-and-5-in-a-line", Draft::of(2).line(2, 9, &[8; 16]).words(), 3, 8),
+        ("4-before-5-in-a-line", Draft::of(2).line(0, 2, &[8]).words(), 4, 7),
+        ("5-in-line-0-before-3-in-line-1", Draft::of(2).line(0, 1, &[8]).line(0, 1, &[]).words(), 5, 9),
+        ("5-in-line-0-before-4-in-line-1", Draft::of(2).line(0, 1, &[8]).line(2, 1, &[1]).words(), 5, 9),
+        ("4-in-line-0-before-3-in-line-1", Draft::of(2).line(0, 2, &[1]).line(0, 1, &[]).words(), 4, 7),
+        ("4-in-line-0-before-5-in-line-1", Draft::of(2).line(0, 2, &[1]).line(0, 1, &[9]).words(), 4, 7),
+        ("3-in-line-0-before-4-in-line-1", Draft::of(2).line(0, 1, &[]).line(0, 2, &[1]).words(), 3, 8),
+        ("5-before-left-over", code_then_left_over.words(), 5, 9),
+        ("left-over-before-4-in-kind-line", left_over_then_panel.words(), 3, 10),
+        ("4-in-kind-line-before-left-over", panel_then_left_over.words(), 4, 6),
+        ("5-before-3-in-kind-line", Draft::of(2).line(0, 1, &[8]).kind(0, 5, &[1; 9]).words(), 5, 9),
+        ("5-before-4-in-kind-line", Draft::of(2).line(0, 1, &[0, 0]).kind(0, 5, &[2]).words(), 5, 10),
+        ("3-before-4-in-a-kind-line", Draft::of(2).kind(2, 5, &[3; 9]).words(), 3, 8),
+        ("4-in-kind-line-0-before-3-in-1", Draft::of(2).kind(0, 5, &[2]).kind(0, 5, &[1; 9]).words(), 4, 9),
+        ("3-in-kind-line-0-before-4-in-1", Draft::of(2).kind(0, 5, &[1; 9]).kind(0, 5, &[2]).words(), 3, 8),
+        ("length-16-past-its-section", vec![2, 1, 0, 6, 9, 9, 2, 2, 16], 3, 8),
+        ("short-line-with-high-board", vec![2, 1, 0, 6, 8, 8, 9, 9], 3, 8),
+        ("short-kind-line-with-high-way", vec![2, 0, 1, 6, 6, 10, 0, 5, 2, 9], 3, 10),
     ]
 }
 
-/// The longest description with one or two words changed: each refusal at its first and last place in it,
-/// and several faults, of which the first in order decides.
-pub fn refused_longest() -> Vec<(&'static str, Vec<u16>)> {
-    let changed = |changes: &[(usize, u16)]| {
-        let mut words = longest().words();
-        for &(at, word) in changes {
-            words[at] = word;
-        }
+/// The longest description made wrong. Its last relation line stands from 2,292 to 2,309, its last kind line from
+/// 2,475 to 2,485.
+pub fn refused_longest() -> Vec<RefusedRun> {
+    [changed_longest(), ends_of_longest()].concat()
+}
+
+/// The words of the longest description, some of them changed.
+fn longest_but(changes: &[(usize, u16)]) -> Vec<u16> {
+    let mut words = longest().words();
+    for &(at, word) in changes {
+        words[at] = word;
+    }
+    words
+}
+
+/// Each refusal at its first and last place in the longest description, and several faults, of which the first in
+/// order decides.
+fn changed_longest() -> Vec<RefusedRun> {
+    vec![
+        ("seventeen-boards", longest_but(&[(0, 17)]), 1, 0),
+        ("kind-lines-17", longest_but(&[(2, 17)]), 1, 2),
+        ("relation-offset-7", longest_but(&[(3, 7)]), 2, 3),
+        ("total-too-small", longest_but(&[(5, 2_485)]), 2, 5),
+        ("first-length-16", longest_but(&[(8, 16)]), 3, 8),
+        ("nine-ways-in-last-line", longest_but(&[(2_477, 9)]), 3, 2_477),
+        ("last-way-left-over", longest_but(&[(2_477, 7)]), 3, 2_485),
+        ("first-board-too-high", longest_but(&[(6, 16)]), 4, 6),
+        ("last-way-too-high", longest_but(&[(2_485, 16)]), 4, 2_485),
+        ("first-code-8", longest_but(&[(9, 8)]), 5, 9),
+        ("last-code-8", longest_but(&[(2_309, 8)]), 5, 2_309),
+        ("last-operand-missing", longest_but(&[(2_309, 6)]), 5, 2_310),
+        ("last-code-too-many", longest_but(&[(2_301, 6)]), 5, 2_309),
+        ("5-in-first-line-before-3-in-last", longest_but(&[(9, 8), (2_477, 9)]), 5, 9),
+        ("3-before-4-in-first-line", longest_but(&[(8, 16), (6, 16)]), 3, 8),
+        ("4-before-5-in-first-line", longest_but(&[(7, 16), (9, 8)]), 4, 7),
+        ("2-before-4-in-first-line", longest_but(&[(5, 2_485), (6, 16)]), 2, 5),
+        ("1-before-2", longest_but(&[(0, 17), (5, 2_485)]), 1, 0),
+    ]
+}
+
+/// The longest description with a word more, or with words taken away or counted in another section or line.
+fn ends_of_longest() -> Vec<RefusedRun> {
+    let ending_at = |total: usize| {
+        let mut words = longest_but(&[(5, total as u16)]);
+        words.resize(total, 0);
         words
     };
+    let mut short_relation_section = longest_but(&[(4, 2_308), (5, 2_484)]);
+    short_relation_section.drain(2_308..2_310);
     vec![
-        ("seventeen-boards", changed(&[(0, 17)])),
-        ("kind-lines-17", changed(&[(2, 17)])),
-        ("relation-offset-7", changed(&[(3, 7)])),
-        ("total-too-small", changed(&[(5, 2_485)])),
-        ("first-length-16", changed(&[(8, 16)])),
-        ("nine-ways-in-last-line", changed(&[(2_477, 9)])),
-        ("last-way-left-over", changed(&[(2_477, 7)])),
-        ("first-board-too-high", changed(&[(6, 16)])),
-        ("last-way-too-high", changed(&[(2_485, 16)])),
-        ("first-code-8", changed(&[(9, 8)])),
-        ("last-code-8", changed(&[(2_309, 8)])),
-        ("last-operand-missing", changed(&[(2_309, 6)])),
-        ("last-code-too-many", changed(&[(2_301, 6)])),
-        ("5-in-first-line-before-3-in-last", changed(&[(9, 8), (2_477, 9)])),
-        ("3-before-4-in-first-line", changed(&[(8, 16), (6, 16)])),
-        ("4-before-5-in-first-line", changed(&[(7, 16), (9, 8)])),
-        ("2-before-4-in-first-line", changed(&[(5, 2_485), (6, 16)])),
-        ("1-before-2", changed(&[(0, 17), (5, 2_485)])),
+        ("a-word-more", ending_at(2_487), 3, 2_486),
+        ("last-way-missing", ending_at(2_485), 3, 2_485),
+        ("all-but-one-word-of-last-kind-line-missing", ending_at(2_476), 3, 2_476),
+        ("last-kind-line-missing", ending_at(2_475), 3, 2_475),
+        ("kind-lines-15", longest_but(&[(2, 15)]), 3, 2_475),
+        ("last-panel-too-high", longest_but(&[(2_475, 16)]), 4, 2_475),
+        ("first-way-of-first-kind-line-too-high", longest_but(&[(2_313, 65_535)]), 4, 2_313),
+        ("kind-offset-one-more", longest_but(&[(4, 2_311)]), 3, 2_310),
+        ("kind-offset-one-less", longest_but(&[(4, 2_309)]), 3, 2_309),
+        ("two-words-of-last-relation-line-missing", short_relation_section, 3, 2_308),
+        ("relation-lines-127", longest_but(&[(1, 127)]), 3, 2_292),
+        ("last-length-0", longest_but(&[(2_294, 0)]), 3, 2_294),
+        ("last-length-14", longest_but(&[(2_294, 14)]), 5, 2_309),
+        ("second-board-of-last-relation-line-too-high", longest_but(&[(2_293, 16)]), 4, 2_293),
     ]
 }

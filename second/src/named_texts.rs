@@ -201,7 +201,7 @@ fn text_limits() -> Vec<(&'static str, String, Draft)> {
     ]
 }
 
-/// A text that is refused, with the number and the count.
+/// A text that is refused, with the number and the count: the line for 20, else the place in the words made.
 pub type Refused = (&'static str, String, u32, u32);
 
 /// All texts that are refused, but for those that only have a malformed line.
@@ -256,11 +256,11 @@ fn too_many() -> Vec<Refused> {
         ("boards-256", "boards 256\n".to_string(), 1, 0),
         ("boards-257", "boards 257\n".to_string(), 1, 0),
         ("boards-65535", "boards 65535".to_string(), 1, 0),
-        ("relation-lines-129", many("0 same 0\n", 129), 1, 0),
-        ("relation-lines-256", many("0 same 0\n", 256), 1, 0),
-        ("kind-lines-17", many("0:5()\n", 17), 1, 0),
-        ("kind-lines-256", many("0:5()\n", 256), 1, 0),
-        ("both-sorts-too-many", many("0 same 0\n0:5()\n", 129), 1, 0),
+        ("relation-lines-129", many("0 same 0\n", 129), 1, 1),
+        ("relation-lines-256", many("0 same 0\n", 256), 1, 1),
+        ("kind-lines-17", many("0:5()\n", 17), 1, 2),
+        ("kind-lines-256", many("0:5()\n", 256), 1, 2),
+        ("both-sorts-too-many", many("0 same 0\n0:5()\n", 129), 1, 1),
     ]
 }
 
@@ -269,33 +269,33 @@ fn too_long() -> Vec<Refused> {
     let line = |expression: String| format!("boards 2\n0 {expression} 1\n");
     let ways = |count: usize| format!("boards 2\n0 : 5 ({} )\n", " 1".repeat(count));
     vec![
-        ("sixteen-words-of-not", line("not ".repeat(15) + "same"), 3, 0),
-        ("sixteen-words-of-inv", line("inv ".repeat(15) + "above"), 3, 0),
-        ("sixteen-words-with-and", line("not side".to_string() + &" and side".repeat(7)), 3, 0),
-        ("seventeen-words-of-or", line("side".to_string() + &" or side".repeat(8)), 3, 0),
-        ("seventeen-words-in-parentheses", line("(side or ".repeat(8) + "side" + &")".repeat(8)), 3, 0),
-        ("words-257-of-not", line("not ".repeat(256) + "same"), 3, 0),
-        ("words-2001-of-not", line("not ".repeat(2_000) + "same"), 3, 0),
-        ("words-1001-of-or", line("(side or ".repeat(500) + "side" + &")".repeat(500)), 3, 0),
-        ("nine-ways", ways(9), 3, 0),
-        ("ways-256", ways(256), 3, 0),
-        ("ways-260", ways(260), 3, 0),
+        ("sixteen-words-of-not", line("not ".repeat(15) + "same"), 3, 8),
+        ("sixteen-words-of-inv", line("inv ".repeat(15) + "above"), 3, 8),
+        ("sixteen-words-with-and", line("not side".to_string() + &" and side".repeat(7)), 3, 8),
+        ("seventeen-words-of-or", line("side".to_string() + &" or side".repeat(8)), 3, 8),
+        ("seventeen-words-in-parentheses", line("(side or ".repeat(8) + "side" + &")".repeat(8)), 3, 8),
+        ("words-257-of-not", line("not ".repeat(256) + "same"), 3, 8),
+        ("words-2001-of-not", line("not ".repeat(2_000) + "same"), 3, 8),
+        ("words-1001-of-or", line("(side or ".repeat(500) + "side" + &")".repeat(500)), 3, 8),
+        ("nine-ways", ways(9), 3, 8),
+        ("ways-256", ways(256), 3, 8),
+        ("ways-260", ways(260), 3, 8),
     ]
 }
 
 /// Refusal 4: a board of V or more.
 fn too_high() -> Vec<Refused> {
     let named = [
-        ("first-board-too-high", "boards 2\n2 same 1\n"),
-        ("second-board-too-high", "boards 2\n0 same 2\n"),
-        ("board-65535", "boards 16\n65535 same 0\n"),
-        ("board-256", "boards 16\n0 same 256\n"),
-        ("panel-too-high", "boards 2\n2 : 5 ( )\n"),
-        ("way-too-high", "boards 3\n0 : 5 ( 1 3 )\n"),
-        ("way-65535", "boards 3\n0 : 5 ( 1 65535 )\n"),
-        ("board-too-high-in-the-last-line", "boards 2\n0 same 1\n1 : 5 ( 0 )\n0 same 1\n1 : 5 ( 2 )"),
+        ("first-board-too-high", "boards 2\n2 same 1\n", 6),
+        ("second-board-too-high", "boards 2\n0 same 2\n", 7),
+        ("board-65535", "boards 16\n65535 same 0\n", 6),
+        ("board-256", "boards 16\n0 same 256\n", 7),
+        ("panel-too-high", "boards 2\n2 : 5 ( )\n", 6),
+        ("way-too-high", "boards 3\n0 : 5 ( 1 3 )\n", 10),
+        ("way-65535", "boards 3\n0 : 5 ( 1 65535 )\n", 10),
+        ("board-too-high-in-the-last-line", "boards 2\n0 same 1\n1 : 5 ( 0 )\n0 same 1\n1 : 5 ( 2 )", 21),
     ];
-    named.into_iter().map(|(name, text)| (name, text.to_string(), 4, 0)).collect()
+    named.into_iter().map(|(name, text, place)| (name, text.to_string(), 4, place)).collect()
 }
 
 /// Refusal 11: a kind line disagrees with an earlier one.
@@ -305,20 +305,20 @@ fn disagreeing() -> Vec<Refused> {
     let eight_and_seven = format!("boards 2\n0:5({eight})\n0:5({})\n", &eight[2..]);
     let last_of_16 = format!("boards 2\n0:5(1)\n{}0:5()", "0:6(1)\n".repeat(14));
     let named = [
-        ("one-and-two-ways", "boards 5\n0 : 5 ( 1 )\n2 : 5 ( 3 4 )\n"),
-        ("two-ways-and-one-among-blanks", blanks),
-        ("no-ways-and-one", "boards 2\n0:5()\n1:5(0)\n"),
-        ("one-way-and-none", "boards 2\n0:5(1)\n1:5()"),
-        ("eight-and-seven-ways", &eight_and_seven),
-        ("kind-0-no-ways-and-one", "boards 2\n0 : 0 ( )\n1 : 0 ( 0 )\n"),
-        ("kind-65535-one-way-and-none", "boards 2\n0 : 65535 ( 1 )\n1 : 65535 ( )\n"),
-        ("disagreeing-around-a-relation-line", "boards 2\n0:5(1)\n0 same 1\n1:5()\n"),
-        ("third-line-disagrees-with-first", "boards 2\n0:5(1)\n0:6()\n1:5()\n"),
-        ("third-line-disagrees-with-two-that-agree", "boards 2\n0:5(1)\n1:5(0)\n1:5()\n"),
-        ("two-kinds-disagree", "boards 2\n0:5(1)\n0:6()\n1:5()\n1:6(0)\n"),
-        ("last-of-16-lines-disagrees-with-first-alone", &last_of_16),
+        ("one-and-two-ways", "boards 5\n0 : 5 ( 1 )\n2 : 5 ( 3 4 )\n", 12),
+        ("two-ways-and-one-among-blanks", blanks, 20),
+        ("no-ways-and-one", "boards 2\n0:5()\n1:5(0)\n", 11),
+        ("one-way-and-none", "boards 2\n0:5(1)\n1:5()", 12),
+        ("eight-and-seven-ways", &eight_and_seven, 19),
+        ("kind-0-no-ways-and-one", "boards 2\n0 : 0 ( )\n1 : 0 ( 0 )\n", 11),
+        ("kind-65535-one-way-and-none", "boards 2\n0 : 65535 ( 1 )\n1 : 65535 ( )\n", 12),
+        ("disagreeing-around-a-relation-line", "boards 2\n0:5(1)\n0 same 1\n1:5()\n", 16),
+        ("third-line-disagrees-with-first", "boards 2\n0:5(1)\n0:6()\n1:5()\n", 15),
+        ("third-line-disagrees-with-two-that-agree", "boards 2\n0:5(1)\n1:5(0)\n1:5()\n", 16),
+        ("two-kinds-disagree", "boards 2\n0:5(1)\n0:6()\n1:5()\n1:6(0)\n", 15),
+        ("last-of-16-lines-disagrees-with-first-alone", &last_of_16, 68),
     ];
-    named.into_iter().map(|(name, text)| (name, text.to_string(), 11, 0)).collect()
+    named.into_iter().map(|(name, text, place)| (name, text.to_string(), 11, place)).collect()
 }
 
 /// Several faults among 1 to 4: the first in the order of the words made decides.
@@ -328,15 +328,15 @@ fn first_in_order() -> Vec<Refused> {
     vec![
         ("1-before-4", "boards 0\n0 same 0\n".to_string(), 1, 0),
         ("1-for-boards-before-3", format!("boards 17\n0 {nots}same 1\n"), 1, 0),
-        ("1-for-lines-before-4", format!("boards 1\n{}", "9 same 9\n".repeat(129)), 1, 0),
-        ("3-before-4-in-a-line", format!("boards 2\n2 {nots}same 2\n"), 3, 0),
-        ("3-before-4-in-a-kind-line", format!("boards 2\n2 : 5 ( {nine})\n"), 3, 0),
-        ("4-before-3-in-the-next-line", format!("boards 2\n2 same 0\n0 {nots}same 1\n"), 4, 0),
-        ("3-before-4-in-the-next-line", format!("boards 2\n0 {nots}same 1\n2 same 0\n"), 3, 0),
-        ("4-in-relation-line-before-3-in-earlier-kind-line", format!("boards 2\n0 : 5 ( {nine})\n2 same 0\n"), 4, 0),
-        ("3-in-relation-line-before-4-in-earlier-kind-line", format!("boards 2\n0 : 5 ( 2 )\n0 {nots}same 1\n"), 3, 0),
-        ("4-in-kind-line-before-3-in-the-next", format!("boards 2\n0 : 5 ( 2 )\n0 : 5 ( {nine})\n"), 4, 0),
-        ("3-in-kind-line-before-4-in-the-next", format!("boards 2\n0 : 5 ( {nine})\n0 : 5 ( 2 )\n"), 3, 0),
+        ("1-for-lines-before-4", format!("boards 1\n{}", "9 same 9\n".repeat(129)), 1, 1),
+        ("3-before-4-in-a-line", format!("boards 2\n2 {nots}same 2\n"), 3, 8),
+        ("3-before-4-in-a-kind-line", format!("boards 2\n2 : 5 ( {nine})\n"), 3, 8),
+        ("4-before-3-in-the-next-line", format!("boards 2\n2 same 0\n0 {nots}same 1\n"), 4, 6),
+        ("3-before-4-in-the-next-line", format!("boards 2\n0 {nots}same 1\n2 same 0\n"), 3, 8),
+        ("4-in-relation-line-before-3-in-earlier-kind-line", format!("boards 2\n0 : 5 ( {nine})\n2 same 0\n"), 4, 6),
+        ("3-in-relation-line-before-4-in-earlier-kind-line", format!("boards 2\n0 : 5 ( 2 )\n0 {nots}same 1\n"), 3, 8),
+        ("4-in-kind-line-before-3-in-the-next", format!("boards 2\n0 : 5 ( 2 )\n0 : 5 ( {nine})\n"), 4, 9),
+        ("3-in-kind-line-before-4-in-the-next", format!("boards 2\n0 : 5 ( {nine})\n0 : 5 ( 2 )\n"), 3, 8),
     ]
 }
 
@@ -348,15 +348,15 @@ fn first_before_11() -> Vec<Refused> {
     vec![
         ("1-for-no-boards-before-11", disagreeing.replace("boards 2", "boards 0"), 1, 0),
         ("1-for-17-boards-before-11", disagreeing.replace("boards 2", "boards 17"), 1, 0),
-        ("1-for-17-kind-lines-before-11", format!("boards 2\n{}0:5(1)", "0:5()\n".repeat(16)), 1, 0),
-        ("3-in-relation-line-before-11", format!("{disagreeing}0 {nots}same 1\n"), 3, 0),
-        ("3-in-later-kind-line-before-11", format!("{disagreeing}0:6({nine})\n"), 3, 0),
-        ("nine-ways-of-a-kind-used-before", format!("boards 2\n0:5(1)\n0:5({nine})\n"), 3, 0),
-        ("nine-ways-of-a-kind-used-after", format!("boards 2\n0:5({nine})\n0:5(1)\n"), 3, 0),
-        ("4-in-relation-line-before-11", format!("{disagreeing}0 same 2\n"), 4, 0),
-        ("4-in-later-kind-line-before-11", format!("{disagreeing}2:6()\n"), 4, 0),
-        ("4-in-earlier-kind-line-before-11", "boards 2\n0:6(2)\n0:5()\n0:5(1)\n".to_string(), 4, 0),
-        ("4-in-the-disagreeing-line", "boards 2\n0:5()\n0:5(2)\n".to_string(), 4, 0),
+        ("1-for-17-kind-lines-before-11", format!("boards 2\n{}0:5(1)", "0:5()\n".repeat(16)), 1, 2),
+        ("3-in-relation-line-before-11", format!("{disagreeing}0 {nots}same 1\n"), 3, 8),
+        ("3-in-later-kind-line-before-11", format!("{disagreeing}0:6({nine})\n"), 3, 15),
+        ("nine-ways-of-a-kind-used-before", format!("boards 2\n0:5(1)\n0:5({nine})\n"), 3, 12),
+        ("nine-ways-of-a-kind-used-after", format!("boards 2\n0:5({nine})\n0:5(1)\n"), 3, 8),
+        ("4-in-relation-line-before-11", format!("{disagreeing}0 same 2\n"), 4, 7),
+        ("4-in-later-kind-line-before-11", format!("{disagreeing}2:6()\n"), 4, 13),
+        ("4-in-earlier-kind-line-before-11", "boards 2\n0:6(2)\n0:5()\n0:5(1)\n".to_string(), 4, 9),
+        ("4-in-the-disagreeing-line", "boards 2\n0:5()\n0:5(2)\n".to_string(), 4, 12),
     ]
 }
 

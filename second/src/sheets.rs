@@ -65,6 +65,14 @@ pub fn any_kind(chance: &mut Chance, boards: usize) -> Kind {
     Kind { p, code: chance.pick(&[1, 1, 7, 65_535]), ways }
 }
 
+/// A kind line with any ways, so that their number and order matter and nothing else does.
+pub fn kind_of_any_ways(chance: &mut Chance, boards: usize) -> Kind {
+    let most = chance.pick(&[0, 1, 3, 8]);
+    let ways = (0..chance.between(0, most)).map(|_| chance.below(boards) as u16).collect();
+    let limit = chance.pick(&[1, 10, 100, 1_000, 10_000, 65_536]);
+    Kind { p: chance.below(boards) as u16, code: chance.below(limit) as u16, ways }
+}
+
 /// Few lines, about anything.
 fn loose(chance: &mut Chance) -> Sheet {
     let boards = few_boards(chance);

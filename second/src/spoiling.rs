@@ -1,8 +1,9 @@
 //! Descriptions that are refused, mostly good ones with something made wrong.
 
 use crate::chance::Chance;
+use crate::description::{HEADER, MOST_KIND_LINES, MOST_RELATION_LINES};
 use crate::drafts::{any_expression, Draft};
-use crate::sheets::any_kind;
+use crate::sheets::{any_kind, any_relation, kind_of_any_ways};
 
 /// Words that are mostly refused: those of the draft with something made wrong, or words by chance.
 pub fn mostly_refused(chance: &mut Chance, draft: &Draft) -> Vec<u16> {
@@ -46,9 +47,13 @@ pub fn disagree(chance: &mut Chance, draft: &mut Draft) -> usize {
     second
 }
 
-/// The words of the draft with one thing, at times two, made wrong; at times kind lines disagree as well.
+/// The words of the draft with one thing, at times two, made wrong; at times lines are added before, or kind lines
+/// disagree as well.
 fn spoilt(chance: &mut Chance, draft: &Draft) -> Vec<u16> {
     let mut draft = draft.clone();
+    if chance.percent(40) {
+        add_lines(chance, &mut draft);
+    }
     if chance.percent(20) {
         disagree(chance, &mut draft);
     }
@@ -61,9 +66,20 @@ fn spoilt(chance: &mut Chance, draft: &Draft) -> Vec<u16> {
     }
     let mut words = draft.words();
     if both || !lines_first {
-        spoil_words(chance, &mut words);
+        spoil_words(chance, &draft, &mut words);
     }
     words
+}
+
+/// Adds lines of both sorts, as far as there may be more; no lines disagree afterwards.
+fn add_lines(chance: &mut Chance, draft: &mut Draft) {
+    for _ in 0..chance.between(1, 3) {
+        draft.relations.push(any_relation(chance, draft.boards, 15));
+        draft.kinds.push(kind_of_any_ways(chance, draft.boards));
+    }
+    draft.relations.truncate(MOST_RELATION_LINES as usize);
+    draft.kinds.truncate(MOST_KIND_LINES as usize);
+    draft.mend_codes();
 }
 
 /// Makes something in the lines wrong, the header remaining right.
@@ -76,40 +92,49 @@ fn spoil_lines(chance: &mut Chance, draft: &mut Draft) {
         _ => {
             let section = chance.below(2);
             let count = chance.between(1, 4);
-            draft.left_over[section] = (0..count).map(|_| chance.below(4) as u16).collect();
+            draft.left_over[section] = (0..count).map(|_| chance.pick(&[0, 0, 1, 2, 3, 9, 65_535])).collect();
         }
     }
 }
 
-/// A code above 7, a word too many or one too few in some expression.
+/// Codes above 7, words too many or words too few in some expression.
 fn spoil_expression(chance: &mut Chance, draft: &mut Draft) {
     let chosen = chance.below(draft.relations.len());
-    let line = match draft.relations.get_mut(chosen) {
-        Some(line) => line,
-        None => return,
+    let expression = match draft.relations.get_mut(chosen) {
+        Some(line) if !line.expression.is_empty() => &mut line.expression,
+        _ => return,
     };
-    let at = chance.below(line.expression.len());
-    match chance.below(4) {
-        0 if at < line.expression.len() => line.expression[at] = chance.pick(&[8, 8, 9, 15, 256, 65_535]),
-        1 => line.expression.insert(at, chance.below(8) as u16),
-        2 => line.expression.push(chance.below(4) as u16),
-        _ => drop(line.expression.pop()),
+    let high = chance.pick(&[8, 8, 9, 15, 256, 65_535]);
+    let at = chance.below(expression.len());
+    match chance.below(10) {
+        0..=2 => expression[at] = high,
+        3 => expression[at] = chance.between(4, 7) as u16,
+        4 => expression.insert(at, chance.below(8) as u16),
+        5..=6 => {
+            let count = chance.between(1, 4);
+            expression.extend((0..count).map(|_| chance.pick(&[0, 1, 2, 3, 4, 6, high])));
+        }
+        7 => expression.truncate(at.max(1)),
+        8 => expression.fill(chance.between(4, 7) as u16),
+        _ => drop(expression.pop()),
     }
 }
 
-/// A board number of V or more somewhere.
+/// A board number of V or more somewhere in a line, at times in several places of it.
 fn spoil_board(chance: &mut Chance, draft: &mut Draft) {
     let v = draft.boards as u16;
-    let wrong = chance.pick(&[v, v, v + 1, 255, 65_535]);
     let in_kinds = chance.percent(50);
     let chosen = chance.below(if in_kinds { draft.kinds.len() } else { draft.relations.len() });
-    if in_kinds {
-        if let Some(line) = draft.kinds.get_mut(chosen) {
-            let at = chance.below(line.ways.len() + 1);
-            *line.ways.get_mut(at).unwrap_or(&mut line.p) = wrong;
+    for _ in 0..chance.pick(&[1, 1, 2]) {
+        let wrong = chance.pick(&[v, v, v + 1, 255, 65_535]);
+        if in_kinds {
+            if let Some(line) = draft.kinds.get_mut(chosen) {
+                let at = chance.below(line.ways.len() + 1);
+                *line.ways.get_mut(at).unwrap_or(&mut line.p) = wrong;
+            }
+        } else if let Some(line) = draft.relations.get_mut(chosen) {
+            *(if chance.percent(50) { &mut line.p } else { &mut line.q }) = wrong;
         }
-    } else if let Some(line) = draft.relations.get_mut(chosen) {
-        *(if chance.percent(50) { &mut line.p } else { &mut line.q }) = wrong;
     }
 }
 
@@ -132,30 +157,60 @@ fn lengthen_ways(chance: &mut Chance, draft: &mut Draft) {
     }
 }
 
-/// Makes some word or the number of words wrong.
-fn spoil_words(chance: &mut Chance, words: &mut Vec<u16>) {
-    match chance.below(8) {
-        0..=2 => spoil_header(chance, words),
-        3 => {
+/// Makes some word or the number of words wrong; the words are those of the draft.
+fn spoil_words(chance: &mut Chance, draft: &Draft, words: &mut Vec<u16>) {
+    match chance.below(13) {
+        0..=3 => {
+            for _ in 0..chance.pick(&[1, 1, 1, 2, 4]) {
+                spoil_header(chance, words);
+            }
+        }
+        4 => {
             let kept = chance.below(words.len());
             words.truncate(kept);
             mend_total(chance, words);
         }
-        4 => {
+        5 => {
             let added = chance.between(1, 5);
             words.extend((0..added).map(|_| chance.below(9) as u16));
             mend_total(chance, words);
         }
-        5 => {
+        6 => {
             let at = chance.below(words.len());
             words.remove(at);
             mend_total(chance, words);
         }
+        7..=8 => shorten_section(chance, words),
+        9..=10 => spoil_a_count(chance, draft, words),
         _ => {
             let at = chance.below(words.len());
             words[at] = any_word(chance, words[at]);
         }
     }
+}
+
+/// Takes a few words off the end of a section, the header remaining right.
+fn shorten_section(chance: &mut Chance, words: &mut Vec<u16>) {
+    let kind_offset = words[4] as usize;
+    let in_kinds = chance.percent(50);
+    let section = if in_kinds { kind_offset..words.len() } else { HEADER..kind_offset };
+    let taken = chance.pick(&[1, 1, 2, 3, 4, 9]).min(section.len());
+    words.drain(section.end - taken..section.end);
+    words[5] -= taken as u16;
+    if !in_kinds {
+        words[4] -= taken as u16;
+    }
+}
+
+/// Puts something else in the place of a length or a number of ways, the words after it remaining as they are.
+fn spoil_a_count(chance: &mut Chance, draft: &Draft, words: &mut [u16]) {
+    let counts = draft.counts();
+    if counts.is_empty() {
+        return;
+    }
+    let at = chance.pick(&counts);
+    let old = words[at];
+    words[at] = chance.pick(&[0, old.wrapping_sub(1), old + 1, old + 2, 8, 9, 15, 16, 256 + old, 65_535]);
 }
 
 /// Often sets the total to the number of words, so that the fault is found later.
@@ -177,17 +232,19 @@ fn any_word(chance: &mut Chance, old: u16) -> u16 {
     }
 }
 
-/// Makes one of the six header words wrong.
+/// Puts something else in the place of one of the six header words.
 fn spoil_header(chance: &mut Chance, words: &mut [u16]) {
     let at = chance.below(6);
     let old = words[at];
+    let (less, more, total) = (old.saturating_sub(1), old.saturating_add(1), words[5]);
     words[at] = match at {
-        0 => chance.pick(&[0, 17, 18, 256, 65_535, old.saturating_sub(1)]),
-        1 => chance.pick(&[129, 255, 256, 65_535, old + 1, old.saturating_sub(1)]),
-        2 => chance.pick(&[17, 18, 256, 65_535, old + 1, old.saturating_sub(1)]),
+        0 => chance.pick(&[0, 17, 18, 256, 65_535, less]),
+        1 => chance.pick(&[129, 255, 256, 65_535, more, less]),
+        2 => chance.pick(&[17, 18, 256, 65_535, more, less]),
         3 => chance.pick(&[0, 5, 7, 65_535]),
-        4 => chance.pick(&[0, 5, old - 1, old + 1, words[5] + 1, words[5], 65_535]),
-        _ => chance.pick(&[0, 5, 6, old - 1, old + 1, 65_535]),
+        4 if chance.percent(40) => chance.between(HEADER, total as usize) as u16,
+        4 => chance.pick(&[0, 5, less, more, total.saturating_add(1), total, 65_535]),
+        _ => chance.pick(&[0, 5, 6, less, more, 65_535]),
     };
 }
 

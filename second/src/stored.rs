@@ -1,13 +1,13 @@
 //! The stored cases: fixed ones first, then made ones.
 
-use crate::calls;
+use crate::calls::{self, Answer};
 use crate::cases::{little_endian_bytes, Case, MOST_SITE_BYTES};
 use crate::drafts::Draft;
 use crate::inputs::lengths;
 use crate::making::Maker;
 use crate::named::{good_drafts, refused_longest, refused_runs};
-use crate::named_kinds::refused_kinds;
 use crate::relations::{converse, ALL, SINGLES};
+use crate::stored_places;
 use crate::stored_texts;
 
 /// The cases made after the fixed ones, and their seed.
@@ -16,20 +16,20 @@ const SEED: u64 = 2_486;
 
 /// All stored cases, in order.
 pub fn all() -> Vec<Case> {
-    assert_refused_kinds();
     let mut cases = compositions();
     cases.extend(triangles());
     cases.extend(expressions());
     cases.extend(numbers_of_ways());
     cases.extend(short_lists());
     cases.extend(good_drafts().iter().flat_map(|(_, draft)| calls_of_draft(draft)));
-    cases.extend(refused_runs().iter().flat_map(|(_, words)| calls_of_refused(words)));
+    cases.extend(refused_runs().iter().flat_map(|(_, words, ..)| calls_of_refused(words)));
+    cases.extend(stored_places::all());
     let inputs = lengths().into_iter().filter(|(_, bytes)| bytes.len() <= MOST_SITE_BYTES);
     cases.extend(inputs.map(|(_, bytes)| Case::site(&bytes)));
     cases.extend(wrong_tables());
     cases.extend(fresh_tables());
     cases.extend(very_long_runs());
-    cases.extend(refused_longest().iter().map(|(_, words)| Case::read(words)));
+    cases.extend(refused_longest().iter().map(|(_, words, ..)| Case::read(words)));
     let mut maker = Maker::of_tables(SEED);
     cases.extend((0..MADE).map(|_| maker.next_case()));
     cases.extend(stored_texts::all());
@@ -87,14 +87,6 @@ fn expressions() -> Vec<Case> {
     all.iter().map(|expression| Case::close(&words(expression), &[ALL; 4])).collect()
 }
 
-/// Checks what the named kind lines are refused with.
-fn assert_refused_kinds() {
-    for (name, words, number) in refused_kinds() {
-        let refused = calls::read(&words).number;
-        assert!(refused == number, "{name} is refused with {refused}");
-    }
-}
-
 /// Two kind lines with each pair of numbers of ways, of one code and of codes that differ in a bit.
 fn numbers_of_ways() -> Vec<Case> {
     let mut cases = Vec::new();
@@ -103,8 +95,9 @@ fn numbers_of_ways() -> Vec<Case> {
             for code in [7, 7 ^ 1 << ((9 * first + second) % 16)] {
                 let words = Draft::of(2).kind(0, 7, &vec![1; first]).kind(1, code, &vec![0; second]).words();
                 let disagree = code == 7 && first != second;
-                let number = calls::read(&words).number;
-                assert!(number == if disagree { 11 } else { 0 }, "{first} and {second} ways give {number}");
+                let (number, count) = if disagree { (11, 11 + first as u32) } else { (0, 0) };
+                let answer = calls::read(&words);
+                assert!(answer == Answer { number, count }, "{first} and {second} ways give {answer:?}");
                 cases.push(Case::read(&words));
             }
         }
@@ -215,5 +208,6 @@ fn fresh_tables() -> Vec<Case> {
 fn very_long_runs() -> Vec<Case> {
     let mut words = Draft::of(1).words();
     words.resize(65_542, 0);
+    assert!(calls::read(&words) == Answer { number: 2, count: 5 });
     vec![Case::read(&words), Case::check(&words, &[1])]
 }

@@ -7,6 +7,8 @@ use crate::drafts::Draft;
 use crate::making::Maker;
 use crate::named::{good_drafts, refused_longest, refused_runs};
 use crate::named_kinds::longest_disagreeing;
+use crate::named_places::refused_places;
+use crate::named_text_places::text_places;
 use crate::named_texts::{
     expressions, good_texts, longest_text, malformed_first_lines, malformed_lines, refused_texts, text_drafts,
 };
@@ -49,12 +51,12 @@ fn assert_numbers(case: &Case) {
 }
 
 /// What no case is long enough for: 100,000 pairs of parentheses around a word are good,
-/// 100,000 times `not` is refused with 3.
+/// 100,000 times `not` is refused with 3 at the length.
 fn assert_depths() {
     let pairs = format!("boards 2\n0 {}side{} 1", "(".repeat(100_000), ")".repeat(100_000));
     assert!(words_of_text(pairs.as_bytes()).ok() == Some(Draft::of(2).line(0, 1, &[3]).words()));
     let nots = format!("boards 2\n0 {}side 1", "not ".repeat(100_000));
-    assert_refused(nots.as_bytes(), 3, 0);
+    assert_refused(nots.as_bytes(), 3, 8);
 }
 
 /// Checks what a text is refused with.
@@ -115,7 +117,7 @@ fn written_and_read(words: &[u16]) -> Vec<Case> {
 /// Each refused text with room and without; what is long without alone.
 fn refused_text_cases() -> Vec<Case> {
     let mut cases = Vec::new();
-    for (_, text, number, count) in refused_texts() {
+    for (_, text, number, count) in refused_texts().into_iter().chain(text_places()) {
         assert_refused(text.as_bytes(), number, count);
         cases.push(Case::typed(text.as_bytes(), 0));
         if text.len() <= LONG {
@@ -228,12 +230,13 @@ fn writing_cases() -> Vec<Case> {
     }
     let longest = longest_text().words();
     cases.extend(written_and_read(&longest));
-    for (_, words) in refused_runs() {
+    for (_, words, ..) in refused_runs() {
         cases.extend([Case::texted(&words, 0), Case::texted(&words, 200)]);
     }
-    let last_faults = ["last-way-too-high", "last-code-8"];
-    let refused = refused_longest().into_iter().filter(|(name, _)| last_faults.contains(name));
-    cases.extend(refused.map(|(_, words)| Case::texted(&words, 20_000)));
+    cases.extend(refused_places().iter().map(|(_, words, ..)| Case::texted(words, 200)));
+    let last_faults = ["last-way-too-high", "last-code-8", "a-word-more"];
+    let refused = refused_longest().into_iter().filter(|(name, ..)| last_faults.contains(name));
+    cases.extend(refused.map(|(_, words, ..)| Case::texted(&words, 20_000)));
     cases.push(Case::texted(&longest_disagreeing().words(), 20_000));
     cases
 }

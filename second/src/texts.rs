@@ -4,7 +4,7 @@ use crate::calls::{text_of_words, words_of_text};
 use crate::cases::{Case, MOST_ROOM_BYTES, MOST_ROOM_WORDS, MOST_TEXT_BYTES};
 use crate::chance::Chance;
 use crate::drafts::{any_expression, Draft, Kind, Relation};
-use crate::sheets::{any_relation, any_sheet};
+use crate::sheets::{any_relation, any_sheet, kind_of_any_ways};
 use crate::spoiling::{disagree, mostly_refused};
 use crate::symbols::{stands_alone, Symbol};
 use crate::typed::{boards_symbols, kind_symbols, relation_symbols};
@@ -158,23 +158,14 @@ fn any_draft(chance: &mut Chance) -> Draft {
         draft.relations.push(any_relation(chance, boards, longest));
     }
     for _ in 0..chance.pick(&[0, 0, 1, 1, 2, 4]) {
-        draft.kinds.push(any_kind(chance, boards));
+        draft.kinds.push(kind_of_any_ways(chance, boards));
     }
     draft.mend_codes();
     draft
 }
 
-/// A kind line with any ways, so that their number and order matter and nothing else does.
-fn any_kind(chance: &mut Chance, boards: usize) -> Kind {
-    let most = chance.pick(&[0, 1, 3, 8]);
-    let ways = (0..chance.between(0, most)).map(|_| chance.below(boards) as u16).collect();
-    let limit = chance.pick(&[1, 10, 100, 1_000, 10_000, 65_536]);
-    Kind { p: chance.below(boards) as u16, code: chance.below(limit) as u16, ways }
-}
-
 /// Makes something wrong that a text can still say: refusal 1, 3, 4 or 11.
 fn add_a_fault(chance: &mut Chance, draft: &mut Draft) {
-    let high = chance.pick(&[draft.boards, draft.boards, draft.boards + 1, 256, 65_535]) as u16;
     match chance.below(17) {
         0 => draft.boards = chance.pick(&[0, 0, 17, 18, 256, 257, 65_535]),
         1 => draft.boards = chance.below(draft.boards + 1),
@@ -196,14 +187,27 @@ fn add_a_fault(chance: &mut Chance, draft: &mut Draft) {
             let ways = vec![0; chance.pick(&[9, 9, 10, 20])];
             insert_kind(chance, draft, Kind { p: 0, code: 1, ways });
         }
-        9..=10 => {
-            let (p, q) = if chance.percent(50) { (0, high) } else { (high, 0) };
-            insert_relation(chance, draft, Relation { p, q, expression: vec![0] });
-        }
-        11 => insert_kind(chance, draft, Kind { p: high, code: 1, ways: Vec::new() }),
-        12..=13 => insert_kind(chance, draft, Kind { p: 0, code: 1, ways: vec![0, high] }),
+        9..=13 => add_a_high_board(chance, draft),
         _ => {
             disagree(chance, draft);
+        }
+    }
+}
+
+/// A line with a board of V or more: p, q or both, the panel, or one of the ways.
+fn add_a_high_board(chance: &mut Chance, draft: &mut Draft) {
+    let high = chance.pick(&[draft.boards, draft.boards, draft.boards + 1, 256, 65_535]) as u16;
+    let mut ways = vec![0; chance.between(1, 8)];
+    match chance.below(5) {
+        0..=1 => {
+            let (p, q) = chance.pick(&[(0, high), (high, 0), (high, high)]);
+            insert_relation(chance, draft, Relation { p, q, expression: vec![0] });
+        }
+        2 => insert_kind(chance, draft, Kind { p: high, code: 1, ways }),
+        _ => {
+            let at = chance.below(ways.len());
+            ways[at] = high;
+            insert_kind(chance, draft, Kind { p: 0, code: 1, ways });
         }
     }
 }
@@ -352,7 +356,7 @@ fn fitting_soup(chance: &mut Chance) -> Pieces {
 
 /// A kind line that is mostly good.
 fn fitting_kind_soup(chance: &mut Chance) -> Pieces {
-    let line = any_kind(chance, 3);
+    let line = kind_of_any_ways(chance, 3);
     with_a_slip(chance, kind_symbols(&line))
 }
 

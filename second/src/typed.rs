@@ -44,8 +44,9 @@ fn number(symbol: Symbol) -> Option<u16> {
     }
 }
 
-/// The draft with everything too long cut to one more than is allowed. It is refused for the same reason,
-/// but its counts and its total fit into words, so that its header is right.
+/// The draft with everything too long cut to one more than is allowed. It is refused for the same reason and at the
+/// same place, for nothing before its first fault is cut; but its counts and its total fit into words, so that its
+/// header is right.
 pub fn cut(mut draft: Draft) -> Draft {
     draft.relations.truncate(MOST_RELATION_LINES as usize + 1);
     draft.kinds.truncate(MOST_KIND_LINES as usize + 1);

@@ -3,6 +3,10 @@ use mathlib.Core.Path.{sym, _∙_}
 use Rattle.contracts.specs.Contracts.{OneResult}
 use Rattle.answers.proofs.refuse.Kinds as refuse-kinds
 use Rattle.answers.proofs.refuse.Reads as refuse
+use Rattle.answers.proofs.refuse_at.Kinds as refuse-at-kinds
+use Rattle.answers.proofs.refuse_at.Reads as refuse-at
+use Rattle.answers.proofs.refusals.later.Kinds as later-kinds
+use Rattle.answers.proofs.refusals.later.Reads as later
 use Rattle.answers.proofs.succeed.Kinds as succeed-kinds
 use Rattle.answers.proofs.succeed.Reads as succeed
 use Rattle.answers.proofs.widths.byte_number.Kinds as byte-number-kinds
@@ -24,6 +28,12 @@ use Rattle.answers.proofs.rooms.words_room.Reads as words-room
 
 pub refuse-determined : OneResult 0 refuse-kinds.ps refuse-kinds.r refuse.Asked refuse.Learnt
 refuse-determined κs a asked x y d e p q = p ∙ sym q
+
+pub refuse-at-determined : OneResult 0 refuse-at-kinds.ps refuse-at-kinds.r refuse-at.Asked refuse-at.Learnt
+refuse-at-determined κs a asked x y d e p q = p ∙ sym q
+
+pub later-determined : OneResult 0 later-kinds.ps later-kinds.r later.Asked later.Learnt
+later-determined κs a asked x y d e p q = p ∙ sym q
 
 pub succeed-determined : OneResult 0 succeed-kinds.ps succeed-kinds.r succeed.Asked succeed.Learnt
 succeed-determined κs a asked x y d e p q = p ∙ sym q

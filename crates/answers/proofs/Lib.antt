@@ -1,3 +1,4 @@
 -- The laws of answers.
 pub mod Outcomes
+pub mod Told
 pub mod Determined

@@ -8,9 +8,9 @@ use Rattle.answers.specs.declared.refusals.Refusal.{Refusal}
 abbrev pub answered : ℕ → ℕ → Answer
 answered n c = record { number = n; count = c }
 
--- a refusal by its number
-abbrev pub refusal : ℕ → Refusal
-refusal n = record { number = n }
+-- a refusal with this number at this place
+abbrev pub refusal : ℕ → ℕ → Refusal
+refusal n k = record { number = n; place = k }
 
 -- an answer, and what is lent as it is afterwards
 abbrev pub outcome : {L : Type 0} → Answer → L → Outcome L

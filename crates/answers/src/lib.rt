@@ -5,7 +5,9 @@ pub mod rooms;
 pub mod widths;
 
 ghost use mathlib.Core.Path.{_≡_};
+ghost use Prim.Native.Nat.{_^_, _<_};
 ghost use Rattle.answers.specs.Answers.{answered};
+use crate::refusals::Refusal;
 
 // What every call answers: a number, 0 for success and else a refusal's, and a count.
 pub struct Answer {
@@ -18,6 +20,14 @@ pub fn refuse(number: u8, count: u32) -> Answer
     ensures { λ a. ⌜ a ≡ answered number count ⌝ }
 {
     Answer { number, count }
+}
+
+// The answer of a call that refuses a description: its count is the place.
+pub fn refuse_at(found: Refusal) -> Answer
+    requires { ⌜ found .place < 2 ^ 32 ⌝ }
+    ensures { λ a. ⌜ a ≡ answered (found .number) (found .place) ⌝ }
+{
+    refuse(found.number, found.place as u32)
 }
 
 // The answer of a call that succeeds.

@@ -4,10 +4,11 @@ use mathlib.Core.List.{List, [], _∷_, _++_}
 use Prim.Native.Nat.{ℕ, _+_, _-_, _≤_, _<_}
 use native.Mathlib.Nat.{zero-add}
 use native.Mathlib.Omega.{arith}
-use lib.ListN.{length, take, drop, length-append}
+use lib.ListN.{length, take, drop, length-append, length-drop}
 use lib.Seq.{take-append-seam}
-use Rattle.rules.specs.Descriptions.{KindLine, good, Front, kindLine}
+use Rattle.rules.specs.Descriptions.{KindLine, good, Front, kindLine, kindWords}
 use Rattle.rules.proofs.Lines.{kind-suffix}
+use Rattle.rules.proofs.KindWords.{line-words, words-more}
 use Rattle.rules.proofs.Walks.{Walk, walk-start, walk-none, walk-next, walk-passed, walk-lines}
 use Rattle.kinds.specs.declared.KindLine as declared
 use Rattle.kinds.specs.Lines.{kindAt, lineAt, StandsIn}
@@ -21,10 +22,12 @@ pub record After (v count : ℕ) (ws : List ℕ) (at i : ℕ) : Type 0 where
   pub counted : i + left ≡ count
   pub walk : Walk (kindLine v) count ws at left
   pub passed : length (walk .done) ≡ i
+  pub words : at ≡ kindWords (walk .done)
 
 pub after-start : (v count : ℕ) (ws : List ℕ) → After v count ws 0 0
+unfolding kindWords
 after-start v count ws =
-    record { left = count; counted = zero-add count; walk = walk-start (kindLine v) count ws; passed = ap length (walk-none (kindLine v) count ws) }
+    record { left = count; counted = zero-add count; walk = walk-start (kindLine v) count ws; passed = ap length (walk-none (kindLine v) count ws); words = sym (ap kindWords (walk-none (kindLine v) count ws)) }
 
 module _ {v count : ℕ} {ws : List ℕ} {at i : ℕ} (a : After v count ws at i) {ks : List KindLine} (fill : Kinds v count ws ks) where
   -- the lines passed are the first i
@@ -35,6 +38,10 @@ module _ {v count : ℕ} {ws : List ℕ} {at i : ℕ} (a : After v count ws at i
 
   pub after-length : length (take i ks) ≡ i
   after-length = ap length (sym taken) ∙ a .passed
+
+  -- and have the words before
+  pub after-words : at ≡ kindWords (take i ks)
+  after-words = a .words ∙ ap kindWords taken
 
 module _ {v count : ℕ} {ws : List ℕ} {at i : ℕ} (a : After v count ws at i) {ks : List KindLine} (fill : Kinds v count ws ks) (more : i < count) where
   some-left : 0 < a .left
@@ -62,6 +69,8 @@ module _ {v count : ℕ} {ws : List ℕ} {at i : ℕ} (a : After v count ws at i
         walk = walk-next (kindLine v) count ws (a .walk) (met .0) some-left (met .1) s .1;
         passed = ap length (walk-passed (kindLine v) count ws (a .walk) (met .0) some-left (met .1) s)
             ∙ length-append (a .walk .done) (met .0 .line ∷ []) ∙ ap (λ (n : ℕ). n + 1) (a .passed);
+        words = omega (arith, a .words, a .walk .within, length-drop at ws, line-words v (drop at ws) (met .0) (met .1), words-more (a .walk .done) (met .0 .line))
+            ∙ sym (ap kindWords (walk-passed (kindLine v) count ws (a .walk) (met .0) some-left (met .1) s));
       }
 
   on-line : take (i + 1) ks ≡ take i ks ++ (met .0 .line ∷ [])

@@ -23,3 +23,11 @@ SomeFirst n ws = (v count : ℕ) × (n ≤ count) × HasKinds v count ws
 -- P holds of the first n kind lines of those that fill the words
 abbrev pub WithFirst : ℕ → List ℕ → (List descriptions.KindLine → Type 0) → Type 0
 WithFirst n ws P = (v count : ℕ) → n ≤ count → WithKinds v count ws (λ ks. P (take n ks))
+
+-- `count` kind lines, on boards below some number, fill the words
+abbrev pub SomeFill : ℕ → List ℕ → Type 0
+SomeFill count ws = (v : ℕ) × HasKinds v count ws
+
+-- P holds of the kind lines that fill the words
+abbrev pub WithAll : ℕ → List ℕ → (List descriptions.KindLine → Type 0) → Type 0
+WithAll count ws P = (v : ℕ) → WithKinds v count ws P

@@ -2,10 +2,11 @@
 ghost use mathlib.Core.Path.{_≡_};
 ghost use Prim.Native.Nat.{_≤_};
 ghost use mathlib.Core.List.{[]};
-ghost use Rattle.rules.specs.Descriptions.{disagrees, firstDisagreeing};
+ghost use lib.ListN.{take};
+ghost use Rattle.rules.specs.Descriptions.{disagrees, firstDisagreeing, kindWords};
 ghost use Rattle.rules.specs.Relations.{someOf};
 ghost use Rattle.kinds.specs.Lines.{lineAt};
-ghost use Rattle.arities.specs.Arities.{differ, WithinWords, SomeFirst, WithFirst};
+ghost use Rattle.arities.specs.Arities.{differ, WithinWords, SomeFirst, WithFirst, SomeFill, WithAll};
 use kinds::KindLine;
 use kinds::kind_at;
 
@@ -41,11 +42,12 @@ fn disagrees_before(words: &[u16], passed: usize, line: KindLine) -> bool
     found
 }
 
-// The number, from 0, of the first of the `count` kind lines that disagrees with an earlier one, or their number where none does.
+// Where the first of the `count` kind lines of the section begins that disagrees with an earlier one, or where the section ends if none does.
 pub fn first_disagreeing(count: usize, words: &[u16]) -> usize
-    requires { ⌜ SomeFirst count (now words) ⌝ }
-    ensures { λ n. ⌜ WithFirst count (now (words .entry)) (λ ks. n ≡ firstDisagreeing [] ks) ⌝ }
+    requires { ⌜ SomeFill count (now words) ⌝ }
+    ensures { λ n. ⌜ WithAll count (now (words .entry)) (λ ks. n ≡ kindWords (take (firstDisagreeing [] ks) ks)) ⌝ }
 {
+    let mut place = words.len();
     let mut first = count;
     let mut at = 0;
     let mut passed = 0;
@@ -53,9 +55,10 @@ pub fn first_disagreeing(count: usize, words: &[u16]) -> usize
         let line = kind_at(words, at);
         if disagrees_before(words, passed, line) {
             first = passed;
+            place = at;
         }
         at = line.end;
         passed += 1;
     }
-    first
+    place
 }

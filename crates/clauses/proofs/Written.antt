@@ -6,9 +6,9 @@ use native.Mathlib.Omega.{arith}
 use lib.ListN.{length, getD, take, drop, take-append-drop, length-drop}
 use lib.Seq.{length-take-le, drop-cons, drop-drop}
 use Rattle.rules.specs.Expressions.{Value, value, malformed, expression, written}
-use Rattle.rules.specs.Descriptions.{RelationLine, KindLine, Sheet, Reading, good, Front, next, meaning, relationLine, kindLine, section, relationLines, kindLines, read, describe}
+use Rattle.rules.specs.Descriptions.{RelationLine, KindLine, Sheet, Reading, good, Front, meaning, relationLine, kindLine, section, relationLines, kindLines, read, describe}
 use Rattle.rules.proofs.Expressions.{expression-written}
-use Rattle.rules.proofs.Readings.{never, next-out}
+use Rattle.rules.proofs.Readings.{never, later-out, section-first}
 use Rattle.rules.proofs.Headers.{InRange, Placed}
 use Rattle.rules.proofs.Descriptions.{read-out}
 use Rattle.rules.proofs.Lines.{RelationRead, relation-out, KindRead, kind-out, ways-length}
@@ -23,10 +23,10 @@ record Fronted {X Y : Type 0} (words : Y → List ℕ) (means : Y → X) (ws : L
   meant : means written ≡ f .line
 
 -- a good meaning is that of an expression with no word after it
-whole : (v : Value) (x : ℕ) → meaning v ≡ good x → v ≡ value x []
-whole (value y []) x e = ap (λ (z : ℕ). value z []) (cc)
-whole (value y (w ∷ ws)) x e = never 5 x e
-whole malformed x e = never 5 x e
+whole : (n : ℕ) (v : Value) (x : ℕ) → meaning n v ≡ good x → v ≡ value x []
+whole n (value y []) x e = ap (λ (z : ℕ). value z []) (cc)
+whole n (value y (w ∷ ws)) x e = never 5 (n - length (w ∷ ws)) x e
+whole n (malformed ws) x e = never 5 (n - length ws) x e
 
 relation-written : (v : ℕ) (ws : List ℕ) (f : Front RelationLine) → relationLine v ws ≡ good f → Fronted formulaWords line ws f
 relation-written v ws f e = go ws (relation-out v ws f e)
@@ -36,7 +36,7 @@ relation-written v ws f e = go ws (relation-out v ws f e)
     go (p ∷ []) r = let z : ⊥ = omega (arith, r .passed .fits .three) in absurd z
     go (p ∷ q ∷ []) r = let z : ⊥ = omega (arith, r .passed .fits .three) in absurd z
     go (p ∷ q ∷ n ∷ ws) r =
-        let x = expression-written (take n ws) (r .allowed) (whole (expression (take n ws)) (r .allowed) (r .means)) in
+        let x = expression-written (take n ws) (r .allowed) (whole n (expression (take n ws)) (r .allowed) (r .means)) in
         let l : length (written (x .0)) ≡ n = ap length (x .1) ∙ length-take-le n ws (omega (arith, r .passed .fits .room)) in
         subst (Fronted formulaWords line (p ∷ q ∷ n ∷ ws)) (r .front)
         (record {
@@ -76,23 +76,17 @@ module _ {X Y : Type 0} (words : Y → List ℕ) (means : Y → X) where
       → (n : ℕ) (ws : List ℕ) (xs : List X) → section line n ws ≡ good xs → Filled n ws xs
   unfolding section flatten
   section-written line h zero [] xs e = record { written = []; counted = refl; spelt = refl; meant = cc }
-  section-written line h zero (w ∷ ws) xs e = never 3 xs e
-  section-written line h (suc n) ws xs e = from (next-out (line ws) _ xs e) (λ us ys d. section-written line h n us ys d)
-    where
-      from : (f : Front X) × (line ws ≡ good f) × (next (section line n (f .rest)) (λ ls. good (f .line ∷ ls)) ≡ good xs)
-          → ((us : List ℕ) (ys : List X) → section line n us ≡ good ys → Filled n us ys) → Filled (suc n) ws xs
-      from (f, d, g) go = on (next-out (section line n (f .rest)) _ xs g)
-        where
-          on : (ls : List X) × (section line n (f .rest) ≡ good ls) × (good (f .line ∷ ls) ≡ good xs) → Filled (suc n) ws xs
-          on (ls, a, b) =
-              let first = h ws f d in
-              let others = go (f .rest) ls a in
-              record {
-                written = first .written ∷ others .written;
-                counted = ap suc (others .counted);
-                spelt = first .spelt ∙ ap (λ (us : List ℕ). words (first .written) ++ us) (others .spelt);
-                meant = ap₂ (λ (x : X) (us : List X). x ∷ us) (first .meant) (others .meant) ∙ cc;
-              }
+  section-written line h zero (w ∷ ws) xs e = never 3 0 xs e
+  section-written line h (suc n) ws xs e =
+      let (f, d, ls, a, b) = section-first line n ws xs e in
+      let first = h ws f d in
+      let others = section-written line h n (f .rest) ls a in
+      record {
+        written = first .written ∷ others .written;
+        counted = ap suc (others .counted);
+        spelt = first .spelt ∙ ap (λ (us : List ℕ). words (first .written) ++ us) (others .spelt);
+        meant = ap₂ (λ (x : X) (us : List X). x ∷ us) (first .meant) (others .meant) ∙ sym b;
+      }
 
 -- ---- a description
 
@@ -128,11 +122,14 @@ sections-described ws r p ls ks m n a b =
 pub read-writes : (ws : List ℕ) (s : Sheet) → read ws ≡ good s → (φ : Description) × Writes ws φ × (sheet φ ≡ s)
 unfolding relationLines kindLines
 read-writes ws s e =
-    let r = read-out ws s e in
+    let r = read-out ws s e .taken in
     let v = getD ws 0 0 in
     let a =
-    section-written formulaWords line (relationLine v) (relation-written v) (getD ws 1 0) (take (getD ws 4 0 - 6) (drop 6 ws)) (s .lines) (r .lines) in
-    let b = section-written labelWords (λ k. k) (kindLine v) (kind-written v) (getD ws 2 0) (drop (getD ws 4 0) ws) (s .kinds) (r .kinds) in
+    section-written formulaWords line (relationLine v) (relation-written v) (getD ws 1 0) (take (getD ws 4 0 - 6) (drop 6 ws)) (s .lines)
+    (later-out 6 (section _ _ _) (s .lines) (r .lines)) in
+    let b =
+    section-written labelWords (λ k. k) (kindLine v) (kind-written v) (getD ws 2 0) (drop (getD ws 4 0) ws) (s .kinds)
+    (later-out (getD ws 4 0) (section _ _ _) (s .kinds) (r .kinds)) in
     let made : List RelationLine → List KindLine → Sheet = λ ls ks. record { boards = v; lines = ls; kinds = ks } in
     let same : made (map line (a .written)) (b .written) ≡ made (s .lines) (s .kinds) = ap₂ made (a .meant) (sym (map-id (b .written)) ∙ b .meant) in (
       record { boards = v; formulas = a .written; labels = b .written },

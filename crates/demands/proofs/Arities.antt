@@ -3,32 +3,35 @@ use mathlib.Core.Path.{_≡_, refl, sym, ap, _∙_, subst}
 use mathlib.Core.Bool.{Bool, true, false, _&&_}
 use mathlib.Core.Logic.{_⊎_, inl, inr, ⊎-elim, _↔_, Iff·trans}
 use mathlib.Core.List.{List, [], _∷_, _++_, flatten, List·Memᴰ·head, Memᴰ·append-left, Memᴰ·append-right}
-use Prim.Native.Nat.{ℕ, suc, _≤_, _<_}
+use Prim.Native.Nat.{ℕ, suc, _+_, _≤_, _<_}
 use native.Mathlib.Nat.{eq-or-lt-of-le}
 use native.Mathlib.Omega.{arith}
 use borrow.Author.Tests.{eq-eqb, eqb-true}
 use lib.Dec.{eqb}
 use lib.ListN.{length, getD, take, drop}
-use lib.Seq.{split-at, length-take-le}
+use lib.Seq.{split-at, length-take-le, getD-drop}
 use Rattle.rules.specs.Expressions.{codes, code, follow, evaluate, expression}
-use Rattle.rules.specs.Descriptions.{KindLine, Sheet, Reading, good, refused, next, relationLine, kindLine, section, numbersFit, offsetsFit, relationLines, kindLines, meant, disagrees, firstDisagreeing, agreed, agreedSheet, read, OneArity, describe}
+use Rattle.rules.specs.Descriptions.{KindLine, Sheet, Reading, good, refused, next, relationLine, kindLine, section, boardsBefore, afterNumbers, afterOffsets, relationLines, kindLines, meant, disagrees, firstDisagreeing, kindWords, agreed, agreedSheet, read, OneArity, describe}
 use Rattle.rules.specs.Arrangements.{width, Alike}
 use Rattle.rules.specs.Closing.{agree}
-use Rattle.rules.specs.Calls.{reading}
+use Rattle.rules.specs.Calls.{Outcome, succeed, given, reading}
 use Rattle.rules.specs.Cases.{feedsAs, feeds}
 use Rattle.rules.proofs.Tests.{clash}
 use Rattle.rules.proofs.Members.{some-of-out}
 use Rattle.rules.proofs.Refusals.{Only, only-meant}
-use Rattle.rules.proofs.Arities.{disagrees-out, first-few, first-disagreeing, none-disagreeing, agreed-in, agreed-refused}
-use Rattle.rules.proofs.Descriptions.{read-wellFormed}
+use Rattle.rules.proofs.Arities.{disagrees-out, first-few, first-disagreeing, none-disagreeing, arity-place, agreed-in, agreed-refused}
+use Rattle.rules.proofs.Readings.{later-out}
+use Rattle.rules.proofs.KindWords.{ways-word}
+use Rattle.rules.proofs.Descriptions.{meant-out, read-wellFormed}
 use Rattle.meanings.proofs.Sheets.{typed-made}
 use Rattle.answers.specs.declared.Answer.{Answer}
+use Rattle.answers.proofs.Outcomes.{says}
 use Rattle.demands.specs.Entries.{Reads, Call, ReadingText, WritingText}
 use Rattle.demands.specs.Sentences.{TableCall}
 use Rattle.demands.specs.Texts.{RoomCall}
 use Rattle.demands.specs.Arities.{Disagreeing, Disagree, OneNumberOfWays}
 use Rattle.demands.proofs.Refusing.{reading-refused, call-gives, gives-description, gives-eleven}
-use Rattle.demands.proofs.Rooms.{ends-refused, writer-ends, reader-ends}
+use Rattle.demands.proofs.Rooms.{ends-number, writer-ends, reader-ends}
 
 -- ---- the lines
 
@@ -80,23 +83,37 @@ module _ (ws : List ℕ) where
   unfolding read
   after-in s e one = rw (e, agreed-in (s .kinds) one)
 
-  after-refused : (s : Sheet) → meant ws ≡ good s → (OneArity (s .kinds) → ⊥) → read ws ≡ refused 11
+  after-refused : (s : Sheet) → meant ws ≡ good s → (OneArity (s .kinds) → ⊥) → read ws ≡ refused 11 (getD ws 4 0 + arity-place (s .kinds))
   unfolding read
   after-refused s e none = rw (e, agreed-refused (s .kinds) none)
 
-  eleven-exactly : (read ws ≡ refused 11) ↔ Disagree ws
-  unfolding read
-  eleven-exactly = (λ e. go (meant ws) refl few e, λ d. after-refused (d .0) (d .1) (disagrees-some (d .0 .kinds) (d .2)))
-    where
-      few : Only (λ n. n ≤ 5) (meant ws)
-      few = only-meant (λ n. n ≤ 5) (omega arith) (omega arith) (omega arith) (omega arith) (omega arith) ws
+  -- 01 refuses with 1 to 5
+  few : Only (λ n. n ≤ 5) (meant ws)
+  few = only-meant (λ n. n ≤ 5) (omega arith) (omega arith) (omega arith) (omega arith) (omega arith) ws
 
-      go : (r : Reading Sheet) → meant ws ≡ r → Only (λ n. n ≤ 5) r → read ws ≡ refused 11 → Disagree ws
-      go (good s) m h e = (s, m, some-disagrees (s .kinds) (λ one. let d = after-in s m one in clash (cc)))
-      go (refused n) m h e =
-          let d : refused n ≡ refused 11 = ap (λ (r : Reading Sheet). next r agreedSheet) (sym m) ∙ e in
-          let k : n ≡ 11 = cc in
+  -- 11 is at the number of ways of the first line that disagrees
+  pub eleven-at : (k : ℕ) → read ws ≡ refused 11 k
+      → (d : Disagree ws) × (getD ws k 0 ≡ length (d .2 .line .ways)) × (k ≡ getD ws 4 0 + (kindWords (d .2 .before) + 2))
+  unfolding read kindLines some-disagrees
+  eleven-at k e = go (meant ws) refl few
+    where
+      go : (r : Reading Sheet) → meant ws ≡ r → Only (λ n. n ≤ 5) r
+          → (d : Disagree ws) × (getD ws k 0 ≡ length (d .2 .line .ways)) × (k ≡ getD ws 4 0 + (kindWords (d .2 .before) + 2))
+      go (refused n i) m h =
+          let d : refused n i ≡ refused 11 k = ap (λ (r : Reading Sheet). next r (agreedSheet (getD ws 4 0))) (sym m) ∙ e in
+          let number : n ≡ 11 = cc in
           clash (omega arith)
+      go (good s) m h =
+          let none : OneArity (s .kinds) → ⊥ = λ one. let d = after-in s m one in clash (cc) in
+          let d : Disagreeing (s .kinds) = some-disagrees (s .kinds) none in
+          let there : refused 11 (getD ws 4 0 + arity-place (s .kinds)) ≡ refused 11 k = sym (after-refused s m none) ∙ e in
+          let at : k ≡ getD ws 4 0 + arity-place (s .kinds) = cc in
+          let own = later-out (getD ws 4 0) (section (kindLine (getD ws 0 0)) (getD ws 2 0) (drop (getD ws 4 0) ws)) (s .kinds) (meant-out ws s m .kinds) in
+          let word = ways-word (getD ws 0 0) (getD ws 2 0) (drop (getD ws 4 0) ws) (d .before) (d .line) (d .after) (own ∙ ap good (d .all)) in
+          ((s, m, d), ap (λ (i : ℕ). getD ws i 0) at ∙ sym (getD-drop (getD ws 4 0) ws (arity-place (s .kinds)) 0) ∙ word, at)
+
+  eleven-exactly : ((k : ℕ) × (read ws ≡ refused 11 k)) ↔ Disagree ws
+  eleven-exactly = (λ (k, e). eleven-at k e .0, λ d. (_, after-refused (d .0) (d .1) (disagrees-some (d .0 .kinds) (d .2))))
 
   unless-eleven : (Disagree ws → ⊥) → read ws ≡ meant ws
   unfolding read
@@ -104,16 +121,16 @@ module _ (ws : List ℕ) where
     where
       go : (r : Reading Sheet) → meant ws ≡ r → read ws ≡ meant ws
       go (good s) m = ⊎-elim (λ one. after-in s m one ∙ sym m) (λ d. absurd (f (s, m, d))) (one-or-some (s .kinds))
-      go (refused n) m = rw m
+      go (refused n k) m = rw m
 
   -- reading answers 11 exactly then
-  reading-eleven : (reading ws ≡ 11) ↔ (read ws ≡ refused 11)
+  reading-eleven : (reading ws .number ≡ 11) ↔ ((k : ℕ) × (read ws ≡ refused 11 k))
   unfolding reading
-  reading-eleven = (go (read ws), reading-refused ws 11)
+  reading-eleven = (go (read ws), λ (k, e). ap (λ (o : Outcome (Unit {0})). o .number) (reading-refused ws 11 k e))
     where
-      go : (r : Reading Sheet) → _≡_ {A = ℕ} (elim r [ good s ↦ 0 | refused n ↦ n ]) 11 → r ≡ refused 11
+      go : (r : Reading Sheet) → given {L = Unit {0}} r tt (λ s. succeed 0 tt) .number ≡ 11 → (k : ℕ) × (r ≡ refused 11 k)
       go (good s) e = clash (omega (arith, e))
-      go (refused n) e = ap refused e
+      go (refused n k) e = (k, ap (λ (m : ℕ). refused m k) e)
 
 -- ---- rule 7
 
@@ -131,13 +148,13 @@ pub one-number-of-ways : OneNumberOfWays Reads Call ReadingText WritingText
 one-number-of-ways =
     record {
       told-exactly = λ ws a call.
-          let n : a .number ≡ reading ws = ap (λ (a : Answer). a .number) call in
+          let n : a .number ≡ reading ws .number = says call in
           Iff·trans (λ e. sym n ∙ e, λ e. n ∙ e) (Iff·trans (reading-eleven ws) (eleven-exactly ws));
       refused-exactly = λ ws t a w call.
           let g = call-gives ws t a w call in
-          Iff·trans (gives-eleven ws t a w g, λ e. gives-description ws t a w g 11 e .number) (eleven-exactly ws);
-      text-refused-exactly = λ text ws t room a w call. Iff·trans (ends-refused (reader-ends text (typed-made t) call) 11 tt) (eleven-exactly ws);
-      writer-refused-exactly = λ ws room a w call. Iff·trans (ends-refused (writer-ends ws call) 11 tt) (eleven-exactly ws);
+          Iff·trans (gives-eleven ws t a w g, λ (k, e). gives-description ws t a w g 11 k e .number) (eleven-exactly ws);
+      text-refused-exactly = λ text ws t room a w call. Iff·trans (ends-number (reader-ends text (typed-made t) call) 11 tt) (eleven-exactly ws);
+      writer-refused-exactly = λ ws room a w call. Iff·trans (ends-number (writer-ends ws call) 11 tt) (eleven-exactly ws);
       read-as-before = unless-eleven;
       good-one-arity = λ ws s e. read-wellFormed ws s e .arity;
       rule-7-by-code = λ ws s e k l m n. by-code k l (read-wellFormed ws s e .arity k l m n);
@@ -157,19 +174,19 @@ noExpression = describe 2 ((0 ∷ 0 ∷ 1 ∷ 8 ∷ []) ∷ []) (feeds 0 (1 ∷ 
 
 -- what they are read as
 record Computed : Type 0 where
-  two-sizes : reading twoSizes ≡ 11
-  two-codes : reading twoCodes ≡ 0
-  no-expression : reading noExpression ≡ 5
+  two-sizes : reading twoSizes .number ≡ 11
+  two-codes : reading twoCodes .number ≡ 0
+  no-expression : reading noExpression .number ≡ 5
 
 computed : Computed
-unfolding codes code follow evaluate expression relationLine kindLine section numbersFit offsetsFit relationLines kindLines meant disagrees firstDisagreeing agreed read
+unfolding codes code follow evaluate expression relationLine kindLine section boardsBefore afterNumbers afterOffsets relationLines kindLines meant disagrees firstDisagreeing kindWords agreed read
     reading flatten
 computed = record { two-sizes = refl; two-codes = refl; no-expression = refl }
 
 module _ {Reads : List ℕ → Answer → Type 0} {Calls : TableCall} {ReadsText WritesText : RoomCall}
     (request : OneNumberOfWays Reads Calls ReadsText WritesText) where
   -- 11 is told of no words that are read otherwise
-  otherwise : (ws : List ℕ) (n : ℕ) → reading ws ≡ n → (n ≡ 11 → ⊥) → (a : Answer) → Reads ws a → a .number ≡ 11 → ⊥
+  otherwise : (ws : List ℕ) (n : ℕ) → reading ws .number ≡ n → (n ≡ 11 → ⊥) → (a : Answer) → Reads ws a → a .number ≡ 11 → ⊥
   otherwise ws n e f a call z = f (sym e ∙ reading-eleven ws .1 (eleven-exactly ws .1 (request .told-exactly ws a call .0 z)))
 
   sizes-disagree : Disagree twoSizes

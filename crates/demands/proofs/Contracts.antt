@@ -4,7 +4,7 @@ use mathlib.Core.Path.{_≡_}
 use Rattle.rules.specs.Search.{plainOrder}
 use Rattle.contracts.specs.Contracts.{AsksNothing, Teaches}
 use Rattle.talung.specs.Packed.{unpack}
-use Rattle.talung.proofs.Packing.{unpacks, unpacks-read}
+use Rattle.talung.proofs.Packing.{unpacks}
 use Rattle.talung.proofs.Numbers.{reading-numbered, fresh-numbered, close-numbered, searching-numbered, check-numbered}
 use Rattle.listing.specs.Listings.{inputLine, listing as prints}
 use Rattle.listing.specs.Pages.{page}
@@ -154,7 +154,7 @@ to-text-learnt κs a x e h = h
 
 -- Of a call for C the same is learnt of the number and the count that its answer is unpacked to.
 pub c-read-learnt : Teaches 1 c-read-kinds.ps c-read-kinds.r c-read.Learnt (λ κs a x e. Reads (a .0 .now) (unpack x))
-c-read-learnt κs a x e h = unpacks-read (reading-numbered (a .0 .now)) h
+c-read-learnt κs a x e h = unpacks (reading-numbered (a .0 .now)) h
 
 pub c-fresh-learnt : Teaches 1 c-fresh-kinds.ps c-fresh-kinds.r c-fresh.Learnt (λ κs a x e. Freshens (a .0) (a .1 .0 .now) (unpack x) (e .1 .0 .now))
 c-fresh-learnt κs a x e h = unpacks (fresh-numbered (a .0) (a .1 .0 .now)) h

@@ -1,5 +1,5 @@
 -- The calls meet the three demands (`Sentences`), whatever they may answer and leave by their promises. Assumes nothing.
-use mathlib.Core.Path.{_≡_, sym, ap, _∙_, subst}
+use mathlib.Core.Path.{_≡_, sym, _∙_, subst}
 use mathlib.Core.Logic.{⊎-elim, _↔_, Iff·trans}
 use mathlib.Core.List.{List}
 use Prim.Native.Nat.{ℕ}
@@ -40,8 +40,8 @@ demand-1 =
       malformed-description-refused = λ ws t a w call. gives-description ws t a w (call-gives ws t a w call);
       malformed-table-refused = λ ws t a w call. gives-table ws t a w (call-gives ws t a w call);
       refusal-leaves-table = λ ws t a w call. gives-leaves ws t a w (call-gives ws t a w call);
-      malformed-description-told = λ ws a call n e. call ∙ ap (λ (n : ℕ). answered n 0) (reading-refused ws n e);
-      good-description-told = λ ws a call s e. call ∙ ap (λ (n : ℕ). answered n 0) (reading-good ws s e);
+      malformed-description-told = λ ws a call n k e. outcome-determined a (answered n k) tt tt (call ∙ reading-refused ws n k e) .0;
+      good-description-told = λ ws a call s e. outcome-determined a (answered 0 0) tt tt (call ∙ reading-good ws s e) .0;
       fresh-boards-refused = λ v t a w call f. refuses t a w (call ∙ fresh-no-boards v t f);
       fresh-cells-refused = λ v t a w call l m f. refuses t a w (call ∙ fresh-no-cells v t l m f);
       fresh-fills = λ v t a w call l m e. outcome-determined a (answered 0 0) w _ (call ∙ fresh-full v t l m e);

@@ -111,7 +111,7 @@ budget-more ord ws t b c l a u call n = by-opening (admitted ws t) refl
         let k = admitted-out ws t s e in
         let p = search-good t ws s (k .0) (k .1) ord b in
         p ∙ ap (answer t) (enough s (call ∙ p)) ∙ sym (search-good t ws s (k .0) (k .1) ord c)
-    by-opening (refused m) e = search-refused t ws ord b e ∙ sym (search-refused t ws ord c e)
+    by-opening (refused m k) e = search-refused t ws ord b e ∙ sym (search-refused t ws ord c e)
 
 -- what the search finds is the first arrangement; it says none where there is none
 module _ {ord : List ℕ} (order : Order ord) (ws : List ℕ) (s : Sheet) (means : read ws ≡ good s) (t : List ℕ) (table : Table (s .boards) t) (n : ℕ) where

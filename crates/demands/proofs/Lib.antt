@@ -1,4 +1,4 @@
--- What the contracts ask and teach, the three demands, what is asked of typed sheets and of kind codes, the laws behind them, and calls that only look like calls.
+-- What the contracts ask and teach, the three demands, what is asked of typed sheets, of kind codes and of places, the laws behind them, and calls that only look like calls.
 pub mod Rooms
 pub mod Contracts
 pub mod Refusing
@@ -8,4 +8,5 @@ pub mod Demands
 pub mod Lines
 pub mod Texts
 pub mod Arities
+pub mod Places
 pub mod Refuted

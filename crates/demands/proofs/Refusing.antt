@@ -21,15 +21,18 @@ use Rattle.answers.proofs.Outcomes.{says, counts, leaves}
 use Rattle.demands.specs.Entries.{Call, closes, searches, checks, Refuses}
 
 -- reading, by what the words mean
-pub reading-refused : (ws : List ℕ) (n : ℕ) → read ws ≡ refused n → reading ws ≡ n
-unfolding reading
-reading-refused ws n e = ap (λ (r : Reading Sheet). elim r [ good s ↦ 0 | refused m ↦ m ]) e
+abbrev told : Reading Sheet → Outcome (Unit {0})
+told r = given r tt (λ s. succeed 0 tt)
 
-pub reading-good : (ws : List ℕ) (s : Sheet) → read ws ≡ good s → reading ws ≡ 0
+pub reading-refused : (ws : List ℕ) (n k : ℕ) → read ws ≡ refused n k → reading ws ≡ refuse n k tt
 unfolding reading
-reading-good ws s e = ap (λ (r : Reading Sheet). elim r [ good s ↦ 0 | refused m ↦ m ]) e
+reading-refused ws n k e = ap told e
 
-pub refuses : (t : List ℕ) (a : Answer) (w : List ℕ) {n : ℕ} → outcome a w ≡ refuse n 0 t → Refuses n t a w
+pub reading-good : (ws : List ℕ) (s : Sheet) → read ws ≡ good s → reading ws ≡ succeed 0 tt
+unfolding reading
+reading-good ws s e = ap told e
+
+pub refuses : (t : List ℕ) (a : Answer) (w : List ℕ) {n k : ℕ} → outcome a w ≡ refuse n k t → Refuses n k t a w
 refuses t a w e = record { number = says e; count = counts e; table = leaves e }
 
 -- what it answers and leaves once description and table are good: a refusal leaves the table
@@ -94,10 +97,10 @@ module _ (ws t : List ℕ) where
         }
 
     module _ (g : Gives ws t a w) where
-      pub gives-description : (n : ℕ) → read ws ≡ refused n → Refuses n t a w
-      gives-description n e = refuses t a w (g .is ∙ given-refused ws t t (g .f) n e)
+      pub gives-description : (n k : ℕ) → read ws ≡ refused n k → Refuses n k t a w
+      gives-description n k e = refuses t a w (g .is ∙ given-refused ws t t (g .f) n k e)
 
-      pub gives-table : (s : Sheet) → read ws ≡ good s → (Table (s .boards) t → ⊥) → Refuses 6 t a w
+      pub gives-table : (s : Sheet) → read ws ≡ good s → (Table (s .boards) t → ⊥) → Refuses 6 0 t a w
       gives-table s e n = refuses t a w (g .is ∙ given-no-table ws t t (g .f) s e n)
 
       pub gives-leaves : (a .number ≡ 0 → ⊥) → w ≡ t
@@ -109,13 +112,13 @@ module _ (ws t : List ℕ) where
               (λ h. let is = g .is ∙ given-good ws t t (g .f) s e (wellFormed-table (s .boards) t h) in leaves is ∙ g .leaves s (λ z. n (says is ∙ z)))
               (λ h. gives-table s e (λ k. T-not (wellFormed (s .boards) t) h (table-wellFormed (s .boards) t k)) .table)
               (T-decide (wellFormed (s .boards) t))
-          by (refused k) e = gives-description k e .table
+          by (refused n k) e = gives-description n k e .table
 
       -- 11 shows that the description was refused with it
-      pub gives-eleven : a .number ≡ 11 → read ws ≡ refused 11
+      pub gives-eleven : a .number ≡ 11 → (k : ℕ) × (read ws ≡ refused 11 k)
       gives-eleven z = by (read ws) refl
         where
-          by : (r : Reading Sheet) → read ws ≡ r → read ws ≡ refused 11
+          by : (r : Reading Sheet) → read ws ≡ r → (k : ℕ) × (read ws ≡ refused 11 k)
           by (good s) e =
               ⊎-elim
               (λ h. let is = g .is ∙ given-good ws t t (g .f) s e (wellFormed-table (s .boards) t h) in absurd (g .other s (sym (says is) ∙ z)))
@@ -123,7 +126,7 @@ module _ (ws t : List ℕ) where
               let six : a .number ≡ 6 = gives-table s e (λ k. T-not (wellFormed (s .boards) t) h (table-wellFormed (s .boards) t k)) .number in
               clash (omega (arith, z)))
               (T-decide (wellFormed (s .boards) t))
-          by (refused k) e = e ∙ ap refused (sym (gives-description k e .number) ∙ z)
+          by (refused n k) e = (k, e ∙ ap (λ (m : ℕ). refused m k) (sym (gives-description n k e .number) ∙ z))
 
       -- success shows that both were good
       pub gives-good : a .number ≡ 0 → (s : Sheet) × (read ws ≡ good s) × Table (s .boards) t
@@ -137,7 +140,7 @@ module _ (ws t : List ℕ) where
             where
               six : a .number ≡ 6 → (s : Sheet) × (read ws ≡ good s) × Table (s .boards) t
               six e = let y : ⊥ = omega (arith, z) in absurd y
-          by (refused k) e =
-              let n : a .number ≡ k = gives-description k e .number in
-              let l = read-bounded ws k e in
+          by (refused n k) e =
+              let said : a .number ≡ n = gives-description n k e .number in
+              let l = read-bounded ws n k e in
               let y : ⊥ = omega (arith, z, l) in absurd y

@@ -10,7 +10,7 @@ use lib.Dec.{T}
 use lib.ListN.{getD}
 use Rattle.rules.specs.Relations.{relations, above, has, setTo, setOf, full, meet, join, complement, within, size, opposite, converse, singles, composed, compose}
 use Rattle.rules.specs.Expressions.{codes, code, follow, evaluate, expression}
-use Rattle.rules.specs.Descriptions.{Sheet, good, relationLine, kindLine, section, numbersFit, offsetsFit, relationLines, kindLines, meant, disagrees, firstDisagreeing, agreed, read, describe}
+use Rattle.rules.specs.Descriptions.{Sheet, good, relationLine, kindLine, section, boardsBefore, afterNumbers, afterOffsets, relationLines, kindLines, meant, disagrees, firstDisagreeing, kindWords, agreed, read, describe}
 use Rattle.rules.specs.Tables.{Table, emptied, total, filled}
 use Rattle.rules.specs.Closing.{reaches, agree, bound6, bound6′, bound7, bound7′, rules1, rules2, rules3, rules4, rules5, rules6, rules7, rules, strike, sweep, sweeps, closing}
 use Rattle.rules.specs.Search.{plainOrder, End, found, tries, attempt, choose, places, search}
@@ -117,7 +117,7 @@ record Computed : Type 0 where
 
 computed : Computed
 unfolding relations has setTo setOf full meet join complement within size opposite converse singles composed compose codes code
-    follow evaluate expression relationLine kindLine section numbersFit offsetsFit relationLines kindLines meant disagrees firstDisagreeing agreed read emptied
+    follow evaluate expression relationLine kindLine section boardsBefore afterNumbers afterOffsets relationLines kindLines meant disagrees firstDisagreeing kindWords agreed read emptied
     total reaches agree bound6 bound6′ bound7 bound7′ rules1 rules2 rules3 rules4 rules5 rules6 rules7 rules strike sweep
     sweeps closing attempt choose places search wellFormed arranged flatMap flatten
 computed =

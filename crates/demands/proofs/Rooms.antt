@@ -1,5 +1,5 @@
 -- How the two text calls end, by their promises, and what follows. Assumes nothing.
-use mathlib.Core.Path.{_≡_, refl, sym, ap, _∙_, subst}
+use mathlib.Core.Path.{_≡_, refl, sym, ap, ap₂, _∙_, subst}
 use mathlib.Core.Bool.{Bool, true, false}
 use mathlib.Core.Logic.{_↔_}
 use mathlib.Core.List.{List, _++_}
@@ -30,12 +30,12 @@ use Rattle.demands.specs.Texts.{Succeeds}
 
 -- A call that makes xs of the words ws ends in one of three ways: it refuses the words, or the room is too small, or it succeeds with xs.
 pub data Ends (ws xs room : List ℕ) (a : Answer) (w : List ℕ) : Type 0 where
-  refuses : (n : ℕ) → read ws ≡ refused n → outcome a w ≡ refuse n 0 room → Ends ws xs room a w
+  refuses : (n k : ℕ) → read ws ≡ refused n k → outcome a w ≡ refuse n k room → Ends ws xs room a w
   small : Good ws → length room < length xs → outcome a w ≡ refuse 19 0 room → Ends ws xs room a w
   succeeds : Good ws → length xs ≤ length room → outcome a w ≡ succeed (length xs) (xs ++ drop (length xs) room) → Ends ws xs room a w
 
 -- good words are not refused
-good-not : {X : Type 0} {ws : List ℕ} {n : ℕ} → Good ws → read ws ≡ refused n → X
+good-not : {X : Type 0} {ws : List ℕ} {n k : ℕ} → Good ws → read ws ≡ refused n k → X
 good-not g e = let d = g .reads in clash (cc)
 
 -- what stands in the room after success
@@ -60,42 +60,54 @@ module _ {ws xs room : List ℕ} {a : Answer} {w : List ℕ} where
 
       by : (r : Reading Sheet) → read ws ≡ r → outcome a w ≡ given r room (λ s. inRoom xs room) → Ends ws xs room a w
       by (good s) e is = fits s e (leb (length xs) (length room)) refl is
-      by (refused n) e is = refuses n e is
+      by (refused n k) e is = refuses n k e is
 
   -- what follows from how it ended
-  pub ends-refused : Ends ws xs room a w → (n : ℕ) → T (refusesDescription n) → (a .number ≡ n) ↔ (read ws ≡ refused n)
-  ends-refused (refuses m e is) n t = (λ z. e ∙ ap refused (sym (says is) ∙ z), λ d. says is ∙ (let same : m ≡ n = cc in same))
-  ends-refused (small g l is) n t = (λ z. absurd (subst (λ (k : ℕ). T (refusesDescription k)) (sym z ∙ says is) t), λ d. good-not g d)
-  ends-refused (succeeds g l is) n t = (λ z. absurd (subst (λ (k : ℕ). T (refusesDescription k)) (sym z ∙ says is) t), λ d. good-not g d)
+  pub ends-refused : Ends ws xs room a w → (n k : ℕ) → T (refusesDescription n) → ((a .number ≡ n) × (a .count ≡ k)) ↔ (read ws ≡ refused n k)
+  ends-refused (refuses m i e is) n k t = (
+    λ (z, y). e ∙ ap₂ refused (sym (says is) ∙ z) (sym (counts is) ∙ y),
+    λ d. let same : m ≡ n = cc in let there : i ≡ k = cc in (says is ∙ same, counts is ∙ there),
+  )
+  ends-refused (small g l is) n k t = (λ (z, y). absurd (subst (λ (m : ℕ). T (refusesDescription m)) (sym z ∙ says is) t), λ d. good-not g d)
+  ends-refused (succeeds g l is) n k t = (λ (z, y). absurd (subst (λ (m : ℕ). T (refusesDescription m)) (sym z ∙ says is) t), λ d. good-not g d)
+
+  -- with this number, at some place
+  pub ends-number : Ends ws xs room a w → (n : ℕ) → T (refusesDescription n) → (a .number ≡ n) ↔ ((k : ℕ) × (read ws ≡ refused n k))
+  ends-number e n t = (λ z. (a .count, ends-refused e n (a .count) t .0 (z, refl)), λ (k, d). ends-refused e n k t .1 d .0)
 
   pub ends-small : Ends ws xs room a w → (a .number ≡ 19) ↔ (Good ws × (length room < length xs))
-  ends-small (refuses n e is) = (λ z. clash (omega (arith, says is, z, read-bounded ws n e .1)), λ h. good-not (h .0) e)
+  ends-small (refuses n k e is) = (λ z. clash (omega (arith, says is, z, read-bounded ws n k e .1)), λ h. good-not (h .0) e)
   ends-small (small g l is) = (λ z. (g, l), λ h. says is)
   ends-small (succeeds g l is) = (λ z. clash (omega (arith, says is, z)), λ h. clash (omega (arith, h .1)))
 
   pub ends-succeeds : Ends ws xs room a w → Good ws → length xs ≤ length room → Succeeds xs a w
-  ends-succeeds (refuses n e is) g l = good-not g e
+  ends-succeeds (refuses n k e is) g l = good-not g e
   ends-succeeds (small h k is) g l = clash (omega arith)
   ends-succeeds (succeeds h k is) g l = succeeds-there xs room is
 
   pub ends-done : Ends ws xs room a w → a .number ≡ 0 → Good ws × Succeeds xs a w
-  ends-done (refuses n e is) z = clash (omega (arith, says is, z, read-bounded ws n e .0))
+  ends-done (refuses n k e is) z = clash (omega (arith, says is, z, read-bounded ws n k e .0))
   ends-done (small g l is) z = clash (omega (arith, says is, z))
   ends-done (succeeds g l is) z = (g, succeeds-there xs room is)
 
   pub ends-rest : Ends ws xs room a w → a .number ≡ 0 → (a .count ≤ length room) × (drop (a .count) w ≡ drop (a .count) room)
-  ends-rest (refuses n e is) z = clash (omega (arith, says is, z, read-bounded ws n e .0))
+  ends-rest (refuses n k e is) z = clash (omega (arith, says is, z, read-bounded ws n k e .0))
   ends-rest (small g l is) z = clash (omega (arith, says is, z))
   ends-rest (succeeds g l is) z =
       (omega (arith, counts is), rw (counts is, leaves is) (drop-append-seam xs (drop (length xs) room)))
 
-  pub ends-leaves : Ends ws xs room a w → (a .number ≡ 0 → ⊥) → (w ≡ room) × (a .count ≡ 0)
-  ends-leaves (refuses n e is) f = (leaves is, counts is)
-  ends-leaves (small g l is) f = (leaves is, counts is)
+  pub ends-leaves : Ends ws xs room a w → (a .number ≡ 0 → ⊥) → w ≡ room
+  ends-leaves (refuses n k e is) f = leaves is
+  ends-leaves (small g l is) f = leaves is
   ends-leaves (succeeds g l is) f = absurd (f (says is))
 
+  pub ends-counts : Ends ws xs room a w → a .number ≡ 19 → a .count ≡ 0
+  ends-counts (refuses n k e is) z = clash (omega (arith, says is, z, read-bounded ws n k e .1))
+  ends-counts (small g l is) z = counts is
+  ends-counts (succeeds g l is) z = clash (omega (arith, says is, z))
+
   pub ends-few : Ends ws xs room a w → a .number ≤ 19
-  ends-few (refuses n e is) = omega (arith, says is, read-bounded ws n e .1)
+  ends-few (refuses n k e is) = omega (arith, says is, read-bounded ws n k e .1)
   ends-few (small g l is) = omega (arith, says is)
   ends-few (succeeds g l is) = omega (arith, says is)
 
@@ -136,11 +148,11 @@ module _ {text room : List ℕ} {a : Answer} {w : List ℕ} where
 
   pub told-leaves : Told text room a w → (a .number ≡ 0 → ⊥) → w ≡ room
   told-leaves (malformedIn n f is) g = leaves is
-  told-leaves (writes ws t e) g = ends-leaves e g .0
+  told-leaves (writes ws t e) g = ends-leaves e g
 
-  pub told-counts : Told text room a w → (a .number ≡ 0 → ⊥) → (a .number ≡ 20 → ⊥) → a .count ≡ 0
-  told-counts (malformedIn n f is) g h = absurd (h (says is))
-  told-counts (writes ws t e) g h = ends-leaves e g .1
+  pub told-counts : Told text room a w → a .number ≡ 19 → a .count ≡ 0
+  told-counts (malformedIn n f is) z = clash (omega (arith, says is, z))
+  told-counts (writes ws t e) z = ends-counts e z
 
   pub told-malformed : Told text room a w → (n : ℕ) → FirstMalformed text n → (a .number ≡ 20) × (a .count ≡ min n mostCount)
   told-malformed (malformedIn m g is) n f = (says is, counts is ∙ ap (λ (k : ℕ). min k mostCount) (one-fault g f))

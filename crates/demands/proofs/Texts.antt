@@ -16,7 +16,7 @@ use Rattle.answers.specs.declared.Answer.{Answer}
 use Rattle.answers.proofs.Outcomes.{outcome-determined, says, counts}
 use Rattle.demands.specs.Entries.{ReadingText, WritingText}
 use Rattle.demands.specs.Texts.{Succeeds, RoomKept, TextReader, TextWriter, ThereAndBack}
-use Rattle.demands.proofs.Rooms.{ends-refused, ends-small, ends-succeeds, ends-done, ends-rest, ends-leaves, front-made, writer-ends, reader-told, reader-ends, told-rest, told-leaves, told-counts, told-malformed, told-fault, told-writes, told-unwritten}
+use Rattle.demands.proofs.Rooms.{ends-refused, ends-number, ends-small, ends-succeeds, ends-done, ends-rest, ends-leaves, ends-counts, front-made, writer-ends, reader-told, reader-ends, told-rest, told-leaves, told-counts, told-malformed, told-fault, told-writes, told-unwritten}
 use Rattle.demands.proofs.Lines.{typed-none-empty, typed-never-2, typed-many, typed-long, typed-few}
 
 -- ---- either call
@@ -28,7 +28,7 @@ reader-keeps-room =
       one-outcome = λ text room a d u w p q. outcome-determined a d u w (p ∙ sym q);
       rest-stays = λ text room a w call. told-rest (reader-told text call);
       refusal-leaves-room = λ text room a w call. told-leaves (reader-told text call);
-      refusal-counts-nothing = λ text room a w call. told-counts (reader-told text call);
+      no-room-counts-nothing = λ text room a w call. told-counts (reader-told text call);
     }
 
 -- and so does the writer.
@@ -37,8 +37,8 @@ writer-keeps-room =
     record {
       one-outcome = λ ws room a d u w p q. outcome-determined a d u w (p ∙ sym q);
       rest-stays = λ ws room a w call. ends-rest (writer-ends ws call);
-      refusal-leaves-room = λ ws room a w call f. ends-leaves (writer-ends ws call) f .0;
-      refusal-counts-nothing = λ ws room a w call f g. ends-leaves (writer-ends ws call) f .1;
+      refusal-leaves-room = λ ws room a w call. ends-leaves (writer-ends ws call);
+      no-room-counts-nothing = λ ws room a w call. ends-counts (writer-ends ws call);
     }
 
 -- ---- the reader
@@ -65,11 +65,11 @@ text-reader =
       description-exactly = λ text ws t room a w call. ends-refused (reader-ends text (typed-made t) call);
       never-2 = λ text room a w call z.
           let (ws, t, e) = told-writes (reader-told text call) (not-20 z (omega arith)) in
-          typed-never-2 t (ends-refused e 2 tt .0 z);
+          let (k, d) = ends-number e 2 tt .0 z in typed-never-2 t k d;
       too-many-lines = λ text ws t room a w call m.
-          ends-refused (reader-ends text (typed-made t) call) 1 tt .1 (typed-many t m);
+          ends-number (reader-ends text (typed-made t) call) 1 tt .1 (typed-many t m);
       too-long-expression = λ text ws t room a w call l k rs us r e g m.
-          ends-refused (reader-ends text (typed-made t) call) 3 tt .1 (typed-long t l k rs us r e g m);
+          ends-number (reader-ends text (typed-made t) call) 3 tt .1 (_, typed-long t l k rs us r e g m);
       no-room-exactly = λ text ws t room a w call. ends-small (reader-ends text (typed-made t) call);
       most-words-enough = λ text room a w call l z.
           let (ws, t, e) = told-writes (reader-told text call) (not-20 z (omega arith)) in

@@ -5,11 +5,11 @@ use Prim.Native.Nat.{ℕ}
 use Rattle.rules.specs.Calls.{reading, fresh, close, searching, check}
 use Rattle.typed.specs.Calls.{fromText, toText}
 use Rattle.answers.specs.declared.Answer.{Answer}
-use Rattle.answers.specs.Answers.{answered, outcome}
+use Rattle.answers.specs.Answers.{outcome}
 
 -- reading the words ws may answer a
 abbrev pub Reads : List ℕ → Answer → Type 0
-Reads ws a = a ≡ answered (reading ws) 0
+Reads ws a = outcome a tt ≡ reading ws
 
 -- the fresh table of v boards may answer a and leave w of the lent table t
 abbrev pub Freshens : ℕ → List ℕ → Answer → List ℕ → Type 0
@@ -41,8 +41,8 @@ pub data Call (ws t : List ℕ) (a : Answer) (w : List ℕ) : Type 0 where
   searches : (ord : List ℕ) (b : ℕ) → Searching ord ws t b a w → Call ws t a w
   checks : Checking ws t a → w ≡ t → Call ws t a w
 
--- refused with this number, count 0, the table as it came
-pub record Refuses (n : ℕ) (t : List ℕ) (a : Answer) (w : List ℕ) : Type 0 where
+-- refused with this number and this count, the table as it came
+pub record Refuses (n k : ℕ) (t : List ℕ) (a : Answer) (w : List ℕ) : Type 0 where
   pub number : a .number ≡ n
-  pub count : a .count ≡ 0
+  pub count : a .count ≡ k
   pub table : w ≡ t

@@ -44,17 +44,17 @@ EachFresh Freshens P = (v : ℕ) (t : List ℕ) (a : Answer) (w : List ℕ) → 
 -- Every entry point takes whatever it is lent, ends, and does nothing undefined: that is said of the code (`every-entry-point`). The rest of the demand,
 -- of a reader, a call that makes a fresh table, and a call that is lent a description and a table:
 pub record Demand1 (Reads : List ℕ → Answer → Type 0) (Freshens : ℕ → List ℕ → Answer → List ℕ → Type 0) (Calls : TableCall) : Type 0 where
-  -- Malformed descriptions and tables are refused by number, the caller having checked nothing;
-  pub malformed-description-refused : EachCall Calls (λ ws t a w. (n : ℕ) → read ws ≡ refused n → Refuses n t a w)
-  pub malformed-table-refused : EachCall Calls (λ ws t a w. (s : Sheet) → read ws ≡ good s → (Table (s .boards) t → ⊥) → Refuses 6 t a w)
+  -- Malformed descriptions and tables are refused by number, a description with the place for a count, the caller having checked nothing;
+  pub malformed-description-refused : EachCall Calls (λ ws t a w. (n k : ℕ) → read ws ≡ refused n k → Refuses n k t a w)
+  pub malformed-table-refused : EachCall Calls (λ ws t a w. (s : Sheet) → read ws ≡ good s → (Table (s .boards) t → ⊥) → Refuses 6 0 t a w)
   -- a refusal leaves the lent table as it came.
   pub refusal-leaves-table : EachCall Calls (λ ws t a w. (a .number ≡ 0 → ⊥) → w ≡ t)
   -- The reader, which is lent no table, refuses by the same numbers, and takes every other description.
-  pub malformed-description-told : (ws : List ℕ) (a : Answer) → Reads ws a → (n : ℕ) → read ws ≡ refused n → a ≡ answered n 0
+  pub malformed-description-told : (ws : List ℕ) (a : Answer) → Reads ws a → (n k : ℕ) → read ws ≡ refused n k → a ≡ answered n k
   pub good-description-told : (ws : List ℕ) (a : Answer) → Reads ws a → (s : Sheet) → read ws ≡ good s → a ≡ answered 0 0
   -- The fresh table refuses a number of boards out of range with 1, then a wrong number of cells with 6, and leaves the table as it came; else it is full.
-  pub fresh-boards-refused : EachFresh Freshens (λ v t a w. (1 ≤ v → v ≤ mostBoards → ⊥) → Refuses 1 t a w)
-  pub fresh-cells-refused : EachFresh Freshens (λ v t a w. 1 ≤ v → v ≤ mostBoards → (length t ≡ v * v → ⊥) → Refuses 6 t a w)
+  pub fresh-boards-refused : EachFresh Freshens (λ v t a w. (1 ≤ v → v ≤ mostBoards → ⊥) → Refuses 1 0 t a w)
+  pub fresh-cells-refused : EachFresh Freshens (λ v t a w. 1 ≤ v → v ≤ mostBoards → (length t ≡ v * v → ⊥) → Refuses 6 0 t a w)
   pub fresh-fills : EachFresh Freshens (λ v t a w. 1 ≤ v → v ≤ mostBoards → length t ≡ v * v → (a ≡ answered 0 0) × (w ≡ filled v))
 
 -- ==== Demand 2

@@ -47,8 +47,8 @@ pub record RoomKept (Calls : RoomCall) : Type 0 where
   pub rest-stays : EachRoom Calls (λ xs room a w. a .number ≡ 0 → (a .count ≤ length room) × (drop (a .count) w ≡ drop (a .count) room))
   -- or on refusal all,
   pub refusal-leaves-room : EachRoom Calls (λ xs room a w. (a .number ≡ 0 → ⊥) → w ≡ room)
-  -- with the count 0, but for 20.
-  pub refusal-counts-nothing : EachRoom Calls (λ xs room a w. (a .number ≡ 0 → ⊥) → (a .number ≡ 20 → ⊥) → a .count ≡ 0)
+  -- with the count 0 where it is too small.
+  pub no-room-counts-nothing : EachRoom Calls (λ xs room a w. a .number ≡ 19 → a .count ≡ 0)
 
 -- ==== The reader
 
@@ -63,8 +63,9 @@ pub record TextReader (Reads : RoomCall) : Type 0 where
   -- without a malformed line the text writes a description, and no other.
   pub written-otherwise : EachRoom Reads
       (λ text room a w. (a .number ≡ 20 → ⊥) → (ws : List ℕ) × SheetTyped text ws × ((us : List ℕ) → SheetTyped text us → us ≡ ws))
-  -- Then 1 to 5, and 11, on the words made, and never 2
-  pub description-exactly : EachSheet Reads (λ text ws t room a w. (n : ℕ) → T (refusesDescription n) → (a .number ≡ n) ↔ (read ws ≡ refused n))
+  -- Then 1 to 5, and 11, on the words made, with the place in these, and never 2
+  pub description-exactly : EachSheet Reads
+      (λ text ws t room a w. (n k : ℕ) → T (refusesDescription n) → ((a .number ≡ n) × (a .count ≡ k)) ↔ (read ws ≡ refused n k))
   pub never-2 : EachRoom Reads (λ text room a w. a .number ≡ 2 → ⊥)
   -- (too many lines is 1,
   pub too-many-lines : EachSheet Reads
@@ -83,8 +84,9 @@ pub record TextReader (Reads : RoomCall) : Type 0 where
 
 -- Of a writer:
 pub record TextWriter (Writes : RoomCall) : Type 0 where
-  -- The writer gives 1 to 5, and 11, first;
-  pub description-exactly : EachRoom Writes (λ ws room a w. (n : ℕ) → T (refusesDescription n) → (a .number ≡ n) ↔ (read ws ≡ refused n))
+  -- The writer gives 1 to 5, and 11, first, with the place;
+  pub description-exactly : EachRoom Writes
+      (λ ws room a w. (n k : ℕ) → T (refusesDescription n) → ((a .number ≡ n) × (a .count ≡ k)) ↔ (read ws ≡ refused n k))
   -- last, 19 where the lent room is too small (room for the longest text is always enough);
   pub no-room-exactly : EachRoom Writes (λ ws room a w. (a .number ≡ 19) ↔ (Good ws × (length room < length (textOf ws))))
   pub most-text-enough : EachRoom Writes (λ ws room a w. Words16 ws → mostText ≤ length room → a .number ≡ 19 → ⊥)

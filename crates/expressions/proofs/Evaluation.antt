@@ -32,7 +32,7 @@ pub operand : (ws : List ℕ) (x n : ℕ) → Finds ws (Set x n) → Operand ws 
 operand ws x n p = go (expression ws) refl p
   where
     go : (v : Value) → expression ws ≡ v → Set x n ≡ expressionFound v → Operand ws x n
-    go malformed e q = clash (cc)
+    go (malformed left) e q = clash (cc)
     go (value y rest) e q =
         let f : y ≡ x = cc in
         let l : length rest ≡ n = cc in
@@ -45,47 +45,50 @@ operand ws x n p = go (expression ws) refl p
           suffix = d .suffix;
         }
 
-pub no-operand : (ws : List ℕ) → Finds ws Malformed → expression ws ≡ malformed
-no-operand ws p = go (expression ws) p
+-- no set is found, and the words from where it fails
+pub no-operand : (ws : List ℕ) (n : ℕ) → Finds ws (Malformed n) → (left : List ℕ) × (expression ws ≡ malformed left) × (length left ≡ n)
+no-operand ws n p = go (expression ws) p
   where
-    go : (v : Value) → Malformed ≡ expressionFound v → v ≡ malformed
-    go malformed q = refl
+    go : (v : Value) → Malformed n ≡ expressionFound v → (left : List ℕ) × (v ≡ malformed left) × (length left ≡ n)
+    go (malformed left) q = (left, refl, cc)
     go (value y rest) q = clash (cc)
 
 -- ---- what is found, by the words
 
-pub finds-nothing : (ws : List ℕ) → length ws ≡ 0 → Finds ws Malformed
+pub finds-nothing : (ws : List ℕ) → length ws ≡ 0 → Finds ws (Malformed 0)
 unfolding expression evaluate
 finds-nothing [] h = refl
 finds-nothing (w ∷ ws) h = let z : ⊥ = omega arith in absurd z
 
 -- some words, by what the code at their front stands for and the words left
 module _ (ws : List ℕ) (some : length ws ≡ 0 → ⊥) where
-  front : (us : List ℕ) → (length us ≡ 0 → ⊥) → expression us ≡ follow expression (code (getD us 0 0)) (drop 1 us)
+  front : (us : List ℕ) → (length us ≡ 0 → ⊥) → expression us ≡ follow expression (code (getD us 0 0)) (getD us 0 0) (drop 1 us)
   front [] h = absurd (h refl)
   front (w ∷ us) h = expression-step w us
 
-  by-code : (c : Code) → code (getD ws 0 0) ≡ c → (e : Expression) → e ≡ expressionFound (follow expression c (drop 1 ws)) → Finds ws e
-  by-code c p e q = q ∙ sym (ap expressionFound (front ws some ∙ ap (λ (c : Code). follow expression c (drop 1 ws)) p))
+  by-code : (c : Code) → code (getD ws 0 0) ≡ c → (e : Expression) → e ≡ expressionFound (follow expression c (getD ws 0 0) (drop 1 ws)) → Finds ws e
+  by-code c p e q = q ∙ sym (ap expressionFound (front ws some ∙ ap (λ (c : Code). follow expression c (getD ws 0 0) (drop 1 ws)) p))
 
   pub finds-relation : (x : ℕ) → code (getD ws 0 0) ≡ relation x → Finds ws (Set x (length ws - 1))
   unfolding follow
   finds-relation x p = by-code (relation x) p (Set x (length ws - 1)) (ap (Set x) (sym (length-drop 1 ws)))
 
-  pub finds-unknown : code (getD ws 0 0) ≡ unknown → Finds ws Malformed
+  pub finds-unknown : code (getD ws 0 0) ≡ unknown → Finds ws (Malformed (length ws))
   unfolding follow
-  finds-unknown p = by-code unknown p Malformed refl
+  finds-unknown p = by-code unknown p (Malformed (length ws)) (ap Malformed (omega (arith, length-drop 1 ws, pos-of-ne-zero some)))
 
-  -- an operator's first operand is missing
-  pub finds-no-first : (c : Code) → code (getD ws 0 0) ≡ c → (operands c ≡ 0 → ⊥) → Finds (drop 1 ws) Malformed → Finds ws Malformed
+  -- an operator's first operand fails
+  pub finds-no-first : (c : Code) → code (getD ws 0 0) ≡ c → (operands c ≡ 0 → ⊥) → operands c ≤ 2 → (n : ℕ) → Finds (drop 1 ws) (Malformed n)
+      → Finds ws (Malformed n)
   unfolding follow
-  finds-no-first c p h q = by-code c p Malformed (go c h)
+  finds-no-first c p h k n q = let (left, fails, many) = no-operand (drop 1 ws) n q in by-code c p (Malformed n) (go left fails many c h k)
     where
-      go : (c : Code) → (operands c ≡ 0 → ⊥) → Malformed ≡ expressionFound (follow expression c (drop 1 ws))
-      go (relation x) h = absurd (h refl)
-      go (two f) h = rw (no-operand (drop 1 ws) q)
-      go (one f) h = rw (no-operand (drop 1 ws) q)
-      go unknown h = refl
+      go : (left : List ℕ) → expression (drop 1 ws) ≡ malformed left → length left ≡ n → (c : Code) → (operands c ≡ 0 → ⊥) → operands c ≤ 2
+          → Malformed n ≡ expressionFound (follow expression c (getD ws 0 0) (drop 1 ws))
+      go left fails many (relation x) h k = absurd (h refl)
+      go left fails many (two f) h k = rw fails (ap Malformed (sym many))
+      go left fails many (one f) h k = rw fails (ap Malformed (sym many))
+      go left fails many unknown h k = let z : ⊥ = omega (arith, k) in absurd z
 
   module _ (x n : ℕ) (first : Finds (drop 1 ws) (Set x n)) where
     pub read-first : Operand (drop 1 ws) x n
@@ -107,10 +110,11 @@ module _ (ws : List ℕ) (some : length ws ≡ 0 → ⊥) where
           ap (λ (k : ℕ). drop k ws) e ∙ sym (drop-drop (length (drop 1 ws) - length (read-first .rest)) 1 ws) ∙ read-first .suffix .end,
         )
 
-    pub finds-no-second : (f : ℕ → ℕ → ℕ) → code (getD ws 0 0) ≡ two f → Finds (drop (length ws - n) ws) Malformed → Finds ws Malformed
+    pub finds-no-second : (f : ℕ → ℕ → ℕ) → code (getD ws 0 0) ≡ two f → (m : ℕ) → Finds (drop (length ws - n) ws) (Malformed m) → Finds ws (Malformed m)
     unfolding follow
-    finds-no-second f p q =
-        by-code (two f) p Malformed (rw (read-first .reads, ap expression (sym (second-at .1)) ∙ no-operand (drop (length ws - n) ws) q))
+    finds-no-second f p m q =
+        let (left, fails, many) = no-operand (drop (length ws - n) ws) m q in
+        by-code (two f) p (Malformed m) (rw (read-first .reads, ap expression (sym (second-at .1)) ∙ fails) (ap Malformed (sym many)))
 
     module _ (y m : ℕ) (second : Finds (drop (length ws - n) ws) (Set y m)) where
       pub finds-two : (f : ℕ → ℕ → ℕ) → code (getD ws 0 0) ≡ two f → Finds ws (Set (f x y) m)

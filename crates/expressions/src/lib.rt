@@ -10,10 +10,11 @@ ghost use Rattle.expressions.specs.Codes.{operands, unary, binary};
 ghost use Rattle.expressions.specs.Found.{expressionFound};
 use answers::widths::word_number;
 
-// What stands at the front of some words: a set and the number of words after its expression, or no expression.
+// What stands at the front of some words: a set and the number of words after its expression; or no expression, and the number of words from the first that goes on
+// with none.
 pub enum Expression {
     Set(u8, usize),
-    Malformed,
+    Malformed(usize),
 }
 
 // How many codes there are.
@@ -85,30 +86,32 @@ fn apply_two(word: usize, x: u8, y: u8) -> u8
     }
 }
 
-// Reads the expression at the front of the words: an operator is followed by its operands, each a whole expression.
+// Reads the expression at the front of the words: an operator is followed by its operands, each a whole expression. Where an operand fails, the whole does.
 pub fn evaluate(words: &[u16]) -> Expression
     requires { ⌜ length (now words) ≤ mostExpressionWords ⌝ }
     ensures { λ r. ⌜ r ≡ expressionFound (expression (now (words .entry))) ⌝ }
 {
     if words.len() == 0 {
-        return Expression::Malformed;
+        return Expression::Malformed(0);
     }
     let word = word_number(words[0]);
     if CODES <= word {
-        return Expression::Malformed;
+        return Expression::Malformed(words.len());
     }
     if !among(OPERATORS, word) {
         return Expression::Set(set_of(word), words.len() - 1);
     }
-    let Expression::Set(x, left) = evaluate(&words[1..]) else {
-        return Expression::Malformed;
+    let first = evaluate(&words[1..]);
+    let Expression::Set(x, left) = first else {
+        return first;
     };
     if among(ONE_OPERAND, word) {
         return Expression::Set(apply_one(word, x), left);
     }
     let second = words.len() - left;
-    let Expression::Set(y, rest) = evaluate(&words[second..]) else {
-        return Expression::Malformed;
+    let last = evaluate(&words[second..]);
+    let Expression::Set(y, rest) = last else {
+        return last;
     };
     Expression::Set(apply_two(word, x, y), rest)
 }

@@ -8,4 +8,4 @@ use Rattle.kind_lines.specs.declared.KindFound.the-variants as kind
 -- the number of words after a kind line, which is found by its place, or the refusal
 abbrev pub kindFound : Reading (Front KindLine) → KindFound
 kindFound (good f) = kind.Line (length (f .rest))
-kindFound (refused n) = kind.Refused (refusal n)
+kindFound (refused n k) = kind.Refused (refusal n k)

@@ -1,6 +1,6 @@
 // Kind lines, tested at the front of the words of their section.
 ghost use mathlib.Core.Path.{_≡_};
-ghost use Rattle.rules.specs.Descriptions.{boardsOnly, kindLine};
+ghost use Rattle.rules.specs.Descriptions.{refused, boardsBefore, kindLine};
 ghost use Rattle.kind_lines.specs.Found.{kindFound};
 use answers::limits::LINE_WORDS;
 use answers::limits::MOST_WAYS;
@@ -15,18 +15,25 @@ pub enum KindFound {
     Refused(Refusal),
 }
 
-// Tells whether each word of the ways is a board below v.
-fn boards_only(v: usize, ways: &[u16]) -> bool
-    ensures { λ b. ⌜ b ≡ boardsOnly v (now (ways .entry)) ⌝ }
+// How many boards below v stand before the first way that is none.
+fn boards_before(v: usize, ways: &[u16]) -> usize
+    ensures { λ n. ⌜ n ≡ boardsBefore v (now (ways .entry)) ⌝ }
 {
     let mut i = 0;
     while i < ways.len() {
         if v <= word_number(ways[i]) {
-            return false;
+            return i;
         }
         i += 1;
     }
-    true
+    i
+}
+
+// A line that is refused with this number, at this place from its first word.
+fn refused(number: u8, place: usize) -> KindFound
+    ensures { λ r. ⌜ r ≡ kindFound (refused number place) ⌝ }
+{
+    KindFound::Refused(Refusal { number, place })
 }
 
 // Tests the kind line at the front of the words, for boards below v, and counts the words after it.
@@ -34,16 +41,23 @@ pub fn kind_line(v: usize, words: &[u16]) -> KindFound
     ensures { λ r. ⌜ r ≡ kindFound (kindLine v (now (words .entry))) ⌝ }
 {
     if words.len() < LINE_WORDS {
-        return KindFound::Refused(Refusal { number: UNFIT });
+        return refused(UNFIT, words.len());
     }
     let n = word_number(words[2]);
-    if MOST_WAYS < n || words.len() - LINE_WORDS < n {
-        return KindFound::Refused(Refusal { number: UNFIT });
+    if MOST_WAYS < n {
+        return refused(UNFIT, 2);
     }
-    let p = word_number(words[0]);
+    if words.len() - LINE_WORDS < n {
+        return refused(UNFIT, words.len());
+    }
+    if v <= word_number(words[0]) {
+        return refused(NO_BOARD, 0);
+    }
     let end = LINE_WORDS + n;
-    if v <= p || !boards_only(v, &words[LINE_WORDS..end]) {
-        return KindFound::Refused(Refusal { number: NO_BOARD });
+    let boards = boards_before(v, &words[LINE_WORDS..end]);
+    if boards < n {
+        let place = LINE_WORDS + boards;
+        return refused(NO_BOARD, place);
     }
     KindFound::Line(words.len() - end)
 }

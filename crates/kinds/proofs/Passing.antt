@@ -93,7 +93,7 @@ module _ {X : Type 0} {v : ℕ} {R : Strikes} (s : Striking v R) {f : List X →
       where
         go : (k : ℕ) → k ≤ 0 → (us : List ℕ) (ms : List X) → section line k us ≡ good ms → ms ≡ []
         go zero h [] ms e = cc
-        go zero h (u ∷ us) ms e = never 3 ms e
+        go zero h (u ∷ us) ms e = never 3 0 ms e
         go (suc k) h us ms e = let z : ⊥ = omega arith in absurd z
 
 -- ---- kind lines

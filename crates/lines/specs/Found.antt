@@ -10,4 +10,4 @@ use Rattle.lines.specs.declared.RelationFound.the-variants as relation
 -- a relation line, and the number of words after it
 abbrev pub relationFound : Reading (Front descriptions.RelationLine) → RelationFound
 relationFound (good f) = relation.Line (record { p = f .line .p; q = f .line .q; allowed = f .line .allowed }) (length (f .rest))
-relationFound (refused n) = relation.Refused (refusal n)
+relationFound (refused n k) = relation.Refused (refusal n k)

@@ -121,7 +121,7 @@ module _ (v : ℕ) (t : List ℕ) where
   searched s = answer t (cap budget (search (closing s) plainOrder (s .boards) t))
 
   -- what is told of a search is short, whether the table is well-formed or not
-  table-short : v ≤ mostBoards → (s : Sheet) (b : Bool) → length (told v (given (need 6 b (good s)) t searched)) ≤ most
+  table-short : v ≤ mostBoards → (s : Sheet) (b : Bool) → length (told v (given (need 6 0 b (good s)) t searched)) ≤ most
   unfolding cap searched
   table-short few s true =
       let e = search (closing s) plainOrder (s .boards) t in answer-short few e (leb (tries e) budget) refl
@@ -136,11 +136,11 @@ module _ (ws : List ℕ) where
 
   -- what is told of the words is short, whatever is read
   reading-short : (r : Reading Sheet) → read ws ≡ r
-      → length (told boards (given (next r (λ s. need 6 (wellFormed (s .boards) table) (good s))) table (searched boards table))) ≤ most
+      → length (told boards (given (next r (λ s. need 6 0 (wellFormed (s .boards) table) (good s))) table (searched boards table))) ≤ most
   reading-short (good s) e = table-short boards table (read-in-range ws s e .boards) s (wellFormed (s .boards) table)
-  reading-short (refused n) e =
-      let k = read-bounded ws n e in
-      told-refused-short boards (refuse n 0 table) (λ z. let w : ⊥ = omega (arith, k .0) in absurd w) (omega (arith, k .1))
+  reading-short (refused n i) e =
+      let k = read-bounded ws n i e in
+      told-refused-short boards (refuse n i table) (λ z. let w : ⊥ = omega (arith, k .0) in absurd w) (omega (arith, k .1))
 
   solved-short : length (solved ws) ≤ most
   unfolding solved searching admitted searched

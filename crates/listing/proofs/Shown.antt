@@ -4,7 +4,7 @@ use mathlib.Core.List.{List, [], _∷_, _++_, flatMap}
 use Prim.Native.Nat.{ℕ}
 use Rattle.rules.specs.Relations.{relations, has, setTo, setOf, full, meet, join, complement, within, size, opposite, converse, singles, composed, compose}
 use Rattle.rules.specs.Expressions.{codes, code, follow, evaluate, expression}
-use Rattle.rules.specs.Descriptions.{relationLine, kindLine, section, numbersFit, offsetsFit, relationLines, kindLines, meant, disagrees, firstDisagreeing, agreed, read}
+use Rattle.rules.specs.Descriptions.{relationLine, kindLine, section, boardsBefore, afterNumbers, afterOffsets, relationLines, kindLines, meant, disagrees, firstDisagreeing, kindWords, agreed, read}
 use Rattle.rules.specs.Tables.{emptied, total}
 use Rattle.rules.specs.Closing.{reaches, agree, bound6, bound6′, bound7, bound7′, rules1, rules2, rules3, rules4, rules5, rules6, rules7, rules, strike, sweep, sweeps, closing}
 use Rattle.rules.specs.Search.{attempt, choose, places, search, cap}
@@ -22,20 +22,20 @@ pub panel-printed : listing (bytes (3 ∷ 0 ∷ 1 ∷ 6 ∷ 6 ∷ 11 ∷ 0 ∷ 5
     ≡ boardsText ++ (51 ∷ []) ++ triesText ++ (48 ∷ 10 ∷ [])
     ++ (48 ∷ 32 ∷ 60 ∷ 32 ∷ 49 ∷ 10 ∷ []) ++ (48 ∷ 32 ∷ 60 ∷ 32 ∷ 50 ∷ 10 ∷ []) ++ (49 ∷ 32 ∷ 124 ∷ 32 ∷ 50 ∷ 10 ∷ [])
 unfolding relations has setTo setOf full meet join complement within size opposite converse singles composed compose codes code
-    follow evaluate expression relationLine kindLine section numbersFit offsetsFit relationLines kindLines meant disagrees firstDisagreeing agreed read emptied
+    follow evaluate expression relationLine kindLine section boardsBefore afterNumbers afterOffsets relationLines kindLines meant disagrees firstDisagreeing kindWords agreed read emptied
     total reaches agree bound6 bound6′ bound7 bound7′ rules1 rules2 rules3 rules4 rules5 rules6 rules7 rules strike sweep
     sweeps closing attempt choose places search cap wellFormed admitted searching flatMap words digits decimal sign refusalLine heading pairLine told solved listing
 panel-printed = refl
 
 -- two panels of code 5, with one way and with two: `refused 11`
 pub disagreeing-printed : listing (bytes (2 ∷ 0 ∷ 2 ∷ 6 ∷ 6 ∷ 15 ∷ 0 ∷ 5 ∷ 1 ∷ 1 ∷ 1 ∷ 5 ∷ 2 ∷ 0 ∷ 0 ∷ [])) ≡ refusedText ++ (49 ∷ 49 ∷ 10 ∷ [])
-unfolding kindLine section numbersFit offsetsFit relationLines kindLines meant disagrees firstDisagreeing agreed read admitted searching
+unfolding kindLine section boardsBefore afterNumbers afterOffsets relationLines kindLines meant disagrees firstDisagreeing kindWords agreed read admitted searching
     flatMap words digits decimal refusalLine told solved listing
 disagreeing-printed = refl
 
 -- no bytes: `refused 1`
 pub nothing-printed : listing [] ≡ refusedText ++ (49 ∷ 10 ∷ [])
-unfolding relations setTo setOf full numbersFit meant read admitted searching words digits decimal refusalLine told solved listing
+unfolding relations setTo setOf full afterNumbers afterOffsets meant read admitted searching words digits decimal refusalLine told solved listing
 nothing-printed = refl
 
 -- one byte: `input`

@@ -1,25 +1,26 @@
 -- What is printed, by the tests that the code makes. Assumes nothing.
-use mathlib.Core.Path.{_≡_, refl, sym, ap, _∙_}
+use mathlib.Core.Path.{_≡_, sym, ap, _∙_}
 use mathlib.Core.Bool.{Bool, true, false, _&&_}
 use mathlib.Core.List.{List, _++_}
 use Prim.Native.Nat.{ℕ, _*_, _%_, _≤_}
-use native.Mathlib.Omega.{arith}
 use borrow.Author.Tests.{eq-eqb, ne-eqb}
 use lib.Dec.{eqb, leb, eqb→eq, leb→le, le→leb}
 use lib.ListN.{length, getD}
-use Rattle.rules.specs.Descriptions.{mostBoards, Sheet, Reading, good, refused, read}
+use Rattle.rules.specs.Descriptions.{mostBoards, Sheet, good, read}
 use Rattle.rules.specs.Search.{plainOrder}
 use Rattle.rules.specs.Calls.{Outcome, reading, fresh, searching}
 use Rattle.rules.specs.Tables.{filled}
 use Rattle.rules.proofs.Tests.{true-T, T-true, T-false, and-T, T-and-left, T-and-right}
 use Rattle.rules.proofs.Headers.{InRange}
-use Rattle.rules.proofs.Descriptions.{read-out, read-bounded}
+use Rattle.rules.proofs.Descriptions.{read-out}
 use Rattle.rules.proofs.Calls.{admitted-refused}
 use Rattle.rules.proofs.Called.{search-refused}
 use Rattle.rules.proofs.Freshness.{fresh-full}
 use Rattle.answers.specs.declared.Answer.{Answer}
 use Rattle.answers.specs.Answers.{answered, outcome}
 use Rattle.answers.proofs.Outcomes.{outcome-determined}
+use Rattle.answers.proofs.Told.{told-good}
+use Rattle.answers.proofs.Told as answers-told
 use Rattle.words.specs.Words.{words}
 use Rattle.listing.specs.Listings.{mostBytes, budget, inputLine, refusalLine, heading, pairs, told, solved, listing}
 
@@ -60,38 +61,24 @@ module _ {v : ℕ} (ws t : List ℕ) {u w : List ℕ} {a b : Answer} (some : 1 �
 module _ (ws : List ℕ) where
   -- the numbers of a good description are in range
   pub read-in-range : (s : Sheet) → read ws ≡ good s → InRange ws
-  read-in-range s e = read-out ws s e .numbers
+  read-in-range s e = read-out ws s e .taken .numbers
 
   -- what is printed is told of a search of a full table
   pub solved-searched : {v : ℕ} → v ≡ getD ws 0 0 → solved ws ≡ told v (searching plainOrder ws (filled v) budget)
   unfolding solved
   solved-searched e = ap (λ (v : ℕ). told v (searching plainOrder ws (filled v) budget)) (sym e)
 
-  -- what follows from the number that reading the words answers
-  module _ {a : Answer} (says : a ≡ answered (reading ws) 0) where
-    read-number : a .number ≡ reading ws
-    read-number = ap (λ (a : Answer). a .number) says
-
+  -- what follows from what reading the words answers
+  module _ {a : Answer} (answers : outcome a tt ≡ reading ws) where
     pub good-in-range : a .number ≡ 0 → InRange ws
-    unfolding reading
-    good-in-range e = go (read ws) refl (sym read-number ∙ e)
-      where
-        go : (r : Reading Sheet) → read ws ≡ r → _≡_ {A = ℕ} (elim r [ good s ↦ 0 | refused n ↦ n ]) 0 → InRange ws
-        go (good s) d z = read-in-range s d
-        go (refused n) d z = let w : ⊥ = omega (arith, read-bounded ws n d) in absurd w
+    good-in-range z = let (s, e) = told-good ws answers z in read-in-range s e
 
     pub solved-refused : (a .number ≡ 0 → ⊥) → solved ws ≡ refusalLine (a .number)
-    unfolding reading solved
-    solved-refused f = go (read ws) refl read-number
-      where
-        t : List ℕ
-        t = filled (getD ws 0 0)
-
-        go : (r : Reading Sheet) → read ws ≡ r → a .number ≡ elim r [ good s ↦ 0 | refused n ↦ n ] → solved ws ≡ refusalLine (a .number)
-        go (good s) d e = absurd (f e)
-        go (refused n) d e =
-            ap (told (getD ws 0 0)) (search-refused t ws plainOrder budget (admitted-refused ws t n d))
-            ∙ told-refused (getD ws 0 0) _ (λ z. f (e ∙ z)) ∙ ap refusalLine (sym e)
+    unfolding solved
+    solved-refused f =
+        let t = filled (getD ws 0 0) in
+        ap (told (getD ws 0 0)) (search-refused t ws plainOrder budget (admitted-refused ws t (a .number) (a .count) (answers-told.told-refused ws answers f)))
+        ∙ told-refused (getD ws 0 0) _ f
 
 -- ---- the bytes
 

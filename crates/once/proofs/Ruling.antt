@@ -36,19 +36,19 @@ pub record Ruled (v : ℕ) (l : RelationLine) : Type 0 where
   pub small : l .allowed < setLimit
 
 -- an expression that means something means a set
-means-set : (us : List ℕ) (x : ℕ) → meaning (expression us) ≡ good x → x < setLimit
-means-set us x m = go (expression us) refl m
+means-set : (n : ℕ) (us : List ℕ) (x : ℕ) → meaning n (expression us) ≡ good x → x < setLimit
+means-set n us x m = go (expression us) refl m
   where
-    go : (e : Value) → expression us ≡ e → meaning e ≡ good x → x < setLimit
+    go : (e : Value) → expression us ≡ e → meaning n e ≡ good x → x < setLimit
     go (value y []) p q = let s : y < setLimit = expression-ends us y [] p .small in subst (λ (n : ℕ). n < setLimit) (cc) s
-    go (value y (w ∷ ws)) p q = never 5 x q
-    go malformed p q = never 5 x q
+    go (value y (w ∷ ws)) p q = never 5 (n - length (w ∷ ws)) x q
+    go (malformed ws) p q = never 5 (n - length ws) x q
 
 line-ruled : (v : ℕ) (us : List ℕ) (f : Front RelationLine) → relationLine v us ≡ good f → Ruled v (f .line)
 line-ruled v us f e =
     let r = relation-out v us f e in
     subst (λ (g : Front RelationLine). Ruled v (g .line)) (r .front)
-    (record { p-board = r .passed .p-board; q-board = r .passed .q-board; small = means-set (take (getD us 2 0) (drop 3 us)) (r .allowed) (r .means) })
+    (record { p-board = r .passed .p-board; q-board = r .passed .q-board; small = means-set (getD us 2 0) (take (getD us 2 0) (drop 3 us)) (r .allowed) (r .means) })
 
 -- what was found, read back
 ruling-out : (r : Reading (Front RelationLine)) (l : declared-relation.RelationLine) (n : ℕ) → Line l n ≡ relationFound r
@@ -56,7 +56,7 @@ ruling-out : (r : Reading (Front RelationLine)) (l : declared-relation.RelationL
 ruling-out (good f) l n e =
     let d : record { p = f .line .p; q = f .line .q; allowed = f .line .allowed } ≡ l = cc in
     (f, refl, ap ruling d, cc)
-ruling-out (refused k) l n e = clash (cc)
+ruling-out (refused m k) l n e = clash (cc)
 
 module _ {v : ℕ} {R : Strikes} (s : Striking v R) {f : List RelationLine → RelationLine → List Rule} {count : ℕ} {ws t : List ℕ} {a : ℕ}
     {u : List ℕ} {b at left : ℕ} (along : Along R f (relationLine v) count ws t a u b at left) (more : 0 < left) where
@@ -87,7 +87,7 @@ module _ {v : ℕ} {R : Strikes} (s : Striking v R) {f : List RelationLine → R
       → section (relationLine v) count ws ≡ good ls → Y
   relation-none {q = q} e {ls} g =
       let o = relation-refused-out (relationLine v (drop at ws)) q (e ∙ ap (λ (us : List ℕ). relationFound (relationLine v us)) (tail at ws)) in
-      never (o .0) ls (sym (walk-refused (relationLine v) count ws (along .walk) (o .0) more (o .1)) ∙ g)
+      never (o .0) (at + o .1) ls (sym (walk-refused (relationLine v) count ws (along .walk) (o .0) (o .1) more (o .2)) ∙ g)
 
 -- a strike of the line's cell by its set
 pub rule-strike : {v : ℕ} {t u : List ℕ} {l : RelationLine} {n : ℕ} → Ready v t → Ruled v l → Narrowed t (v * l .p + l .q) (l .allowed) u n

@@ -14,7 +14,10 @@ pub fn admit(words: &[u16], table: &[u8]) -> HeaderFound
         HeaderFound::Refused(r) => return HeaderFound::Refused(r),
     };
     if !tables::well_formed(h.boards, table) {
-        return HeaderFound::Refused(Refusal { number: NO_TABLE });
+        return HeaderFound::Refused(Refusal {
+            number: NO_TABLE,
+            place: 0,
+        });
     }
     HeaderFound::Good(h)
 }

@@ -1,16 +1,13 @@
 -- What was gathered of a text, joined, is read as the words that the text makes. Assumes nothing.
 use mathlib.Core.Path.{_≡_, refl, sym, ap, ap₂, _∙_, subst}
-use mathlib.Core.Bool.{_&&_}
 use mathlib.Core.List.{List, [], _∷_, _++_, map, flatten}
 use Prim.Native.Nat.{ℕ, _+_, _-_, _≤_, _<_, min}
 use native.Mathlib.Omega.{arith}
-use lib.Dec.{T, leb, leb→le}
 use lib.ListN.{length, take, drop, length-map}
 use lib.Seq.{sets, sets-eq, length-sets, take-all, take-append-add}
 use Rattle.rules.specs.Descriptions.{mostBoards, mostLines, mostKinds, mostExpressionWords, mostWays, mostWords, Sheet, Reading, good, refused, read, describe}
 use Rattle.rules.specs.Calls.{Outcome, refuse, given}
-use Rattle.rules.proofs.Tests.{clash, T-and-left, T-and-right}
-use Rattle.rules.proofs.Readings.{need-failed}
+use Rattle.rules.proofs.Tests.{clash}
 use Rattle.rules.proofs.Members.{All, all-none, all-one, all-append}
 use Rattle.typed.specs.Brief.{brief}
 use Rattle.typed.specs.Symbols.{symbols}
@@ -21,7 +18,7 @@ use Rattle.meanings.proofs.Sheets.{made-lines}
 use Rattle.meanings.proofs.Malformed.{malformed-first}
 use Rattle.returns.proofs.Sections.{IsLine}
 use Rattle.returns.proofs.Made.{relation-typed-line, kind-typed-line}
-use Rattle.returns.proofs.Headers.{inRange, read-described}
+use Rattle.returns.proofs.Headers.{range-boards, range-lines, range-kinds, read-described}
 use Rattle.returns.proofs.Brief.{brief-read, brief-good}
 use Rattle.text_lines.specs.declared.Gathered.{Gathered}
 use Rattle.text_lines.specs.Gatherings.{Parts, faultAt, parts, partsOf, openedParts, sheetParts, typedParts, kindsRoom, Stored, Whole, Gathers}
@@ -169,28 +166,25 @@ module _ {v : ℕ} {rs ks : List (List ℕ)} {ws kinds : List ℕ} {g : Gathered
           go (good s) e =
               let d : short ≡ describe v rs ks = brief-good v rs ks relationLines kindLines s e in
               ap (λ (us : List ℕ). given (read us) room (λ s. inRoom us room)) d
-          go (refused n) e =
+          go (refused n k) e =
               ap (λ (r : Reading Sheet). given r room (λ s. inRoom short room)) (same ∙ e)
               ∙ sym (ap (λ (r : Reading Sheet). given r room (λ s. inRoom (describe v rs ks) room)) e)
 
 -- ---- what a text came to
 
--- too many lines of a sort are refused with 1
-out-of-range : (v : ℕ) (rs ks : List (List ℕ)) (room : List ℕ) → (T (inRange v (length rs) (length ks)) → ⊥) → refuse 1 0 room ≡ read-parts (parts v rs ks) room
-out-of-range v rs ks room f =
-    sym (ap (λ (r : Reading Sheet). given r room (λ s. inRoom (describe v rs ks) room)) (read-described v rs ks ∙ need-failed 1 (inRange v (length rs) (length ks)) _ f))
+-- a number of boards out of range, or too many lines of a sort, are refused with 1, at their word
+module _ (v : ℕ) (rs ks : List (List ℕ)) (room : List ℕ) where
+  unread : (k : ℕ) → read (describe v rs ks) ≡ refused 1 k → refuse 1 k room ≡ read-parts (parts v rs ks) room
+  unread k e = sym (ap (λ (r : Reading Sheet). given r room (λ s. inRoom (describe v rs ks) room)) e)
 
-pub many-relations : (v : ℕ) (rs ks : List (List ℕ)) (room : List ℕ) → mostLines < length rs → refuse 1 0 room ≡ read-parts (parts v rs ks) room
-unfolding inRange
-many-relations v rs ks room h =
-    out-of-range v rs ks room
-    (λ t. clash (omega (arith, leb→le (length rs) mostLines (T-and-right (leb 1 v && leb v mostBoards) (leb (length rs) mostLines) (T-and-left ((leb 1 v && leb v mostBoards) && leb (length rs) mostLines) (leb (length ks) mostKinds) t)))))
+  pub no-boards : (1 ≤ v → v ≤ mostBoards → ⊥) → refuse 1 0 room ≡ read-parts (parts v rs ks) room
+  no-boards f = unread 0 (read-described v rs ks ∙ range-boards v (length rs) (length ks) _ f)
 
-pub many-kinds : (v : ℕ) (rs ks : List (List ℕ)) (room : List ℕ) → mostKinds < length ks → refuse 1 0 room ≡ read-parts (parts v rs ks) room
-unfolding inRange
-many-kinds v rs ks room h =
-    out-of-range v rs ks room
-    (λ t. clash (omega (arith, leb→le (length ks) mostKinds (T-and-right ((leb 1 v && leb v mostBoards) && leb (length rs) mostLines) (leb (length ks) mostKinds) t))))
+  pub many-relations : 1 ≤ v → v ≤ mostBoards → mostLines < length rs → refuse 1 1 room ≡ read-parts (parts v rs ks) room
+  many-relations some most h = unread 1 (read-described v rs ks ∙ range-lines v (length rs) (length ks) _ some most h)
+
+  pub many-kinds : 1 ≤ v → v ≤ mostBoards → length rs ≤ mostLines → mostKinds < length ks → refuse 1 2 room ≡ read-parts (parts v rs ks) room
+  many-kinds some most few h = unread 2 (read-described v rs ks ∙ range-kinds v (length rs) (length ks) _ some most few h)
 
 -- the parts of a text without a malformed line
 pub record Parted (text ws kinds : List ℕ) (g : Gathered) : Type 0 where

@@ -10,6 +10,7 @@ ghost use Rattle.typed.specs.Calls.{mostCount, inRoom, fromText};
 ghost use Rattle.reading.specs.Joined.{header, Joins, Joined};
 use answers::Answer;
 use answers::limits::HEADER_WORDS;
+use answers::limits::MOST_BOARDS;
 use answers::limits::MOST_KINDS;
 use answers::limits::MOST_LINES;
 use answers::refusals::NO_ROOM;
@@ -18,6 +19,7 @@ use answers::refusals::OUT_OF_RANGE;
 use answers::refuse;
 use answers::rooms::words_room;
 use answers::succeed;
+use answers::widths::word_number;
 use taken::put_words;
 use text_lines::Gathered;
 use text_lines::gather;
@@ -69,7 +71,7 @@ fn hand_over(words: &[u16], room: &mut [u16]) -> Answer
 {
     let read = solver::read(words);
     if read.number != 0 {
-        return refuse(read.number, 0);
+        return read;
     }
     if room.len() < words.len() {
         return refuse(NO_ROOM, 0);
@@ -89,11 +91,15 @@ pub fn from_text(text: &[u8], room: &mut [u16]) -> Answer
     if lines.fault != 0 {
         return refuse(NO_SHEET, line_count(lines.fault));
     }
-    if MOST_LINES < lines.relations {
+    let boards = word_number(lines.boards);
+    if boards < 1 || MOST_BOARDS < boards {
         return refuse(OUT_OF_RANGE, 0);
     }
+    if MOST_LINES < lines.relations {
+        return refuse(OUT_OF_RANGE, 1);
+    }
     if MOST_KINDS < lines.kinds {
-        return refuse(OUT_OF_RANGE, 0);
+        return refuse(OUT_OF_RANGE, 2);
     }
     let total = join(&mut words, &kinds, lines);
     hand_over(&words[..total], room)

@@ -9,12 +9,12 @@ use native.Mathlib.Nat.{zero-add, suc-add}
 use native.Mathlib.Omega.{arith}
 use borrow.Author.Tests.{eq-eqb}
 use lib.Dec.{T, T-not, eqb, eqb→eq, eqb-refl}
-use lib.ListN.{length}
+use lib.ListN.{length, take}
 use Rattle.rules.specs.Relations.{someOf}
-use Rattle.rules.specs.Descriptions.{KindLine, good, refused, disagrees, firstDisagreeing, agreed, SameArity, OneArity}
+use Rattle.rules.specs.Descriptions.{KindLine, good, refused, disagrees, firstDisagreeing, kindWords, agreed, SameArity, OneArity}
 use Rattle.rules.proofs.Tests.{and-T, T-and-left, T-and-right, T-decide, T-true, true-T}
 use Rattle.rules.proofs.Members.{some-of-in, some-of-out}
-use Rattle.rules.proofs.Readings.{need-passed, need-failed, need-test, need-rest}
+use Rattle.rules.proofs.Readings.{need-passed, need-failed, need-out}
 
 -- ---- two lines
 
@@ -74,11 +74,11 @@ unfolding firstDisagreeing
 first-none earlier = refl
 
 module _ (earlier : List KindLine) (k : KindLine) (ks : List KindLine) where
-  first-here : someOf (disagrees k) earlier ≡ true → firstDisagreeing earlier (k ∷ ks) ≡ 0
+  pub first-here : someOf (disagrees k) earlier ≡ true → firstDisagreeing earlier (k ∷ ks) ≡ 0
   unfolding firstDisagreeing
   first-here e = rw (e, firstDisagreeing)
 
-  first-later : someOf (disagrees k) earlier ≡ false → firstDisagreeing earlier (k ∷ ks) ≡ suc (firstDisagreeing (earlier ++ (k ∷ [])) ks)
+  pub first-later : someOf (disagrees k) earlier ≡ false → firstDisagreeing earlier (k ∷ ks) ≡ suc (firstDisagreeing (earlier ++ (k ∷ [])) ks)
   unfolding firstDisagreeing
   first-later e = rw (e, firstDisagreeing)
 
@@ -141,21 +141,27 @@ none-disagreeing ks = (
 
 -- ---- the kind lines of a description
 
--- lines are refused with 11 exactly if they are not of one arity
-pub agreed-in : (ks : List KindLine) → OneArity ks → agreed ks ≡ good ks
-unfolding agreed
-agreed-in ks h =
-    need-passed 11 (eqb (firstDisagreeing [] ks) (length ks)) (good ks) (true-T (eq-eqb (firstDisagreeing [] ks) (length ks) (none-disagreeing ks .1 h)))
+module _ (ks : List KindLine) where
+  -- the first line that disagrees, its number of ways, and that there is none
+  abbrev disagreeing : ℕ
+  disagreeing = firstDisagreeing [] ks
 
-pub agreed-refused : (ks : List KindLine) → (OneArity ks → ⊥) → agreed ks ≡ refused 11
-unfolding agreed
-agreed-refused ks f =
-    need-failed 11 (eqb (firstDisagreeing [] ks) (length ks)) (good ks) (λ t. f (none-disagreeing ks .0 (eqb→eq (firstDisagreeing [] ks) (length ks) t)))
+  abbrev pub arity-place : ℕ
+  arity-place = kindWords (take disagreeing ks) + 2
 
--- and what is not refused stays
-pub agreed-out : (ks ls : List KindLine) → agreed ks ≡ good ls → (ks ≡ ls) × OneArity ks
-unfolding agreed
-agreed-out ks ls e =
-    let test = eqb (firstDisagreeing [] ks) (length ks) in
-    let d : good ks ≡ good ls = need-rest 11 test (good ks) ls e in
-    (cc, none-disagreeing ks .0 (eqb→eq (firstDisagreeing [] ks) (length ks) (need-test 11 test (good ks) ls e)))
+  -- lines are refused with 11 exactly if they are not of one arity, at that place
+  pub agreed-in : OneArity ks → agreed ks ≡ good ks
+  unfolding agreed
+  agreed-in h = need-passed 11 arity-place (eqb disagreeing (length ks)) (good ks) (true-T (eq-eqb disagreeing (length ks) (none-disagreeing ks .1 h)))
+
+  pub agreed-refused : (OneArity ks → ⊥) → agreed ks ≡ refused 11 arity-place
+  unfolding agreed
+  agreed-refused f =
+      need-failed 11 arity-place (eqb disagreeing (length ks)) (good ks) (λ t. f (none-disagreeing ks .0 (eqb→eq disagreeing (length ks) t)))
+
+  -- and what is not refused stays
+  pub agreed-out : (ls : List KindLine) → agreed ks ≡ good ls → (ks ≡ ls) × OneArity ks
+  unfolding agreed
+  agreed-out ls e =
+      let (t, d) = need-out 11 arity-place (eqb disagreeing (length ks)) (good ks) ls e in
+      (cc, none-disagreeing ks .0 (eqb→eq disagreeing (length ks) t))

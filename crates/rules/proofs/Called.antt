@@ -31,18 +31,18 @@ module _ (t : List ℕ) where
   checks s = by-test (arranged s t)
 
   module _ (ws : List ℕ) where
-    given-told : {n : ℕ} (f : Sheet → Outcome (List ℕ)) → admitted ws t ≡ refused n → given (admitted ws t) t f ≡ refuse n 0 t
+    given-told : {n k : ℕ} (f : Sheet → Outcome (List ℕ)) → admitted ws t ≡ refused n k → given (admitted ws t) t f ≡ refuse n k t
     given-told f e = ap (λ (r : Reading Sheet). given r t f) e
 
-    pub close-refused : {n : ℕ} → admitted ws t ≡ refused n → close ws t ≡ refuse n 0 t
+    pub close-refused : {n k : ℕ} → admitted ws t ≡ refused n k → close ws t ≡ refuse n k t
     unfolding close
     close-refused e = given-told closes e
 
-    pub search-refused : (ord : List ℕ) (b : ℕ) {n : ℕ} → admitted ws t ≡ refused n → searching ord ws t b ≡ refuse n 0 t
+    pub search-refused : (ord : List ℕ) (b : ℕ) {n k : ℕ} → admitted ws t ≡ refused n k → searching ord ws t b ≡ refuse n k t
     unfolding searching
     search-refused ord b e = given-told (searches ord b) e
 
-    pub check-refused : {n : ℕ} → admitted ws t ≡ refused n → check ws t ≡ refuse n 0 t
+    pub check-refused : {n k : ℕ} → admitted ws t ≡ refused n k → check ws t ≡ refuse n k t
     unfolding check
     check-refused e = given-told checks e
 

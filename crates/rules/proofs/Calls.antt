@@ -50,21 +50,21 @@ wellFormed-table v t h =
 module _ (ws t : List ℕ) where
   -- the table is looked at once the description has been read
   abbrev looked : Reading Sheet → Reading Sheet
-  looked r = next r (λ s. need 6 (wellFormed (s .boards) t) (good s))
+  looked r = next r (λ s. need 6 0 (wellFormed (s .boards) t) (good s))
 
-  pub admitted-refused : (n : ℕ) → read ws ≡ refused n → admitted ws t ≡ refused n
+  pub admitted-refused : (n k : ℕ) → read ws ≡ refused n k → admitted ws t ≡ refused n k
   unfolding admitted
-  admitted-refused n e = ap looked e
+  admitted-refused n k e = ap looked e
 
   module _ (s : Sheet) (means : read ws ≡ good s) where
-    pub admitted-no-table : (Table (s .boards) t → ⊥) → admitted ws t ≡ refused 6
+    pub admitted-no-table : (Table (s .boards) t → ⊥) → admitted ws t ≡ refused 6 0
     unfolding admitted
     admitted-no-table g =
-        ap looked means ∙ ap (λ (b : Bool). need 6 b (good s)) (T-false {b = wellFormed (s .boards) t} (λ a. g (wellFormed-table (s .boards) t a)))
+        ap looked means ∙ ap (λ (b : Bool). need 6 0 b (good s)) (T-false {b = wellFormed (s .boards) t} (λ a. g (wellFormed-table (s .boards) t a)))
 
     pub admitted-good : Table (s .boards) t → admitted ws t ≡ good s
     unfolding admitted
-    admitted-good h = ap looked means ∙ ap (λ (b : Bool). need 6 b (good s)) (T-true {b = wellFormed (s .boards) t} (table-wellFormed (s .boards) t h))
+    admitted-good h = ap looked means ∙ ap (λ (b : Bool). need 6 0 b (good s)) (T-true {b = wellFormed (s .boards) t} (table-wellFormed (s .boards) t h))
 
   -- what is known of what was admitted
   pub admitted-out : (s : Sheet) → admitted ws t ≡ good s → (read ws ≡ good s) × Table (s .boards) t
@@ -74,19 +74,19 @@ module _ (ws t : List ℕ) where
       by : (r : Reading Sheet) → read ws ≡ r → looked r ≡ good s → (r ≡ good s) × Table (s .boards) t
       by (good u) e q = formed (wellFormed (u .boards) t) refl q
         where
-          formed : (b : Bool) → wellFormed (u .boards) t ≡ b → need 6 b (good u) ≡ good s → (good u ≡ good s) × Table (s .boards) t
+          formed : (b : Bool) → wellFormed (u .boards) t ≡ b → need 6 0 b (good u) ≡ good s → (good u ≡ good s) × Table (s .boards) t
           formed true f q = (q, let same : u ≡ s = cc in subst (λ (s : Sheet). Table (s .boards) t) same (wellFormed-table (u .boards) t (true-T f)))
           formed false f q = clash (cc)
-      by (refused n) e q = clash (cc)
+      by (refused n k) e q = clash (cc)
 
   -- what a call comes to by that
   module _ {L : Type 0} (l : L) (f : Sheet → Outcome L) where
     by-reading : Reading Sheet → Outcome L
     by-reading r = given r l f
 
-    pub given-refused : (n : ℕ) → read ws ≡ refused n → given (admitted ws t) l f ≡ refuse n 0 l
+    pub given-refused : (n k : ℕ) → read ws ≡ refused n k → given (admitted ws t) l f ≡ refuse n k l
     unfolding by-reading
-    given-refused n e = ap by-reading (admitted-refused n e)
+    given-refused n k e = ap by-reading (admitted-refused n k e)
 
     module _ (s : Sheet) (means : read ws ≡ good s) where
       pub given-no-table : (Table (s .boards) t → ⊥) → given (admitted ws t) l f ≡ refuse 6 0 l

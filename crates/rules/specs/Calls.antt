@@ -30,18 +30,18 @@ module _ {L : Type 0} where
 unfoldable pub wellFormed : ℕ → List ℕ → Bool
 wellFormed v t = eqb (length t) (v * v) && eachOf (λ x. ltb x setLimit) t
 
--- the description that is meant, once 1 to 5, then 11 and then 6 have been looked for
+-- the description that is meant, once 1 to 5, then 11 and then 6, which has no place, have been looked for
 unfoldable pub admitted : List ℕ → List ℕ → Reading Sheet
-admitted ws t = next (read ws) (λ s. need 6 (wellFormed (s .boards) t) (good s))
+admitted ws t = next (read ws) (λ s. need 6 0 (wellFormed (s .boards) t) (good s))
 
--- what is lent as it came where the reading was refused, or what comes of what was read
+-- what is lent as it came where the reading was refused, with the place for a count, or what comes of what was read
 abbrev pub given : {X L : Type 0} → Reading X → L → (X → Outcome L) → Outcome L
 given (good x) l f = f x
-given (refused n) l f = refuse n 0 l
+given (refused n k) l f = refuse n k l
 
--- reading: 0, 1 to 5, or 11
-unfoldable pub reading : List ℕ → ℕ
-reading ws = elim (read ws) [ good s ↦ 0 | refused n ↦ n ]
+-- reading: 0, 1 to 5, or 11; nothing is lent but the words
+unfoldable pub reading : List ℕ → Outcome (Unit {0})
+reading ws = given (read ws) tt (λ s. succeed 0 tt)
 
 -- the fresh table: filled with 15; 1 where V is out of range, then 6 for a wrong number of cells
 unfoldable pub fresh : ℕ → List ℕ → Outcome (List ℕ)

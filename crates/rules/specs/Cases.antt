@@ -16,12 +16,12 @@ pub data Case : Type 0 where
   composes : (x y z : ℕ) → Case
   -- an expression means the set x
   means : (words : List ℕ) (x : ℕ) → Case
-  -- the reader answers this number: 0, or the refusal
-  answers : (words : List ℕ) (number : ℕ) → Case
+  -- the reader answers this number, 0 or the refusal, with this place
+  answers : (words : List ℕ) (number place : ℕ) → Case
   -- of these kind lines, line n is the first that disagrees with an earlier one
   disagreesFirst : (lines : List KindLine) (n : ℕ) → Case
-  -- closing, searching with this budget and checking refuse this description and table with this number, and leave the table
-  refuses : (words table : List ℕ) (budget number : ℕ) → Case
+  -- closing, searching with this budget and checking refuse this description and table with this number and this place, and leave the table
+  refuses : (words table : List ℕ) (budget number place : ℕ) → Case
   -- closing the full table strikes so many relations and leaves this table
   closes : (v : ℕ) (lines kinds : List (List ℕ)) (struck : ℕ) (table : List ℕ) → Case
   -- the full table closes to a contradiction
@@ -40,9 +40,9 @@ pub data Case : Type 0 where
 abbrev pub CaseHolds : Case → Type 0
 CaseHolds (composes x y z) = compose x y ≡ z
 CaseHolds (means ws x) = expression ws ≡ value x []
-CaseHolds (answers ws n) = reading ws ≡ n
+CaseHolds (answers ws n k) = reading ws ≡ refuse n k tt
 CaseHolds (disagreesFirst ks n) = firstDisagreeing [] ks ≡ n
-CaseHolds (refuses ws t b n) = close ws t ∷ searching plainOrder ws t b ∷ check ws t ∷ [] ≡ replicate 3 (refuse n 0 t)
+CaseHolds (refuses ws t b n k) = close ws t ∷ searching plainOrder ws t b ∷ check ws t ∷ [] ≡ replicate 3 (refuse n k t)
 CaseHolds (closes v ls ks n u) = close (describe v ls ks) (filled v) ≡ succeed n u
 CaseHolds (clashes v ls ks) = close (describe v ls ks) (filled v) ≡ refuse 7 0 (filled v)
 CaseHolds (finds v ls ks n u) = searching plainOrder (describe v ls ks) (filled v) n ≡ succeed n u
@@ -92,8 +92,8 @@ cases =
     ∷ means (7 ∷ 4 ∷ 0 ∷ 1 ∷ []) 5
     ∷ means (5 ∷ 0 ∷ 1 ∷ []) 0
     -- expression 4 0 is refused with 5; so is 0 0
-    ∷ answers (describe 1 ((0 ∷ 0 ∷ 2 ∷ 4 ∷ 0 ∷ []) ∷ []) []) 5
-    ∷ answers (describe 1 ((0 ∷ 0 ∷ 2 ∷ 0 ∷ 0 ∷ []) ∷ []) []) 5
+    ∷ answers (describe 1 ((0 ∷ 0 ∷ 2 ∷ 4 ∷ 0 ∷ []) ∷ []) []) 5 11
+    ∷ answers (describe 1 ((0 ∷ 0 ∷ 2 ∷ 0 ∷ 0 ∷ []) ∷ []) []) 5 10
     -- V = 1, no lines: closing strikes 3; arrangement after 0 tries
     ∷ closes 1 [] [] 3 (1 ∷ [])
     ∷ finds 1 [] [] 0 (1 ∷ [])
@@ -137,51 +137,101 @@ cases =
     ∷ rejects 2 (is 0 above 1 ∷ []) [] (1 ∷ 1 ∷ 1 ∷ 1 ∷ [])
     ∷ rejects 2 [] [] (1 ∷ 15 ∷ 15 ∷ 1 ∷ [])
     -- 16 boards are taken, 17 refused with 1, and so are five words
-    ∷ answers (describe 16 [] []) 0
-    ∷ answers (describe 17 [] []) 1
-    ∷ answers (1 ∷ 0 ∷ 0 ∷ 6 ∷ 6 ∷ []) 1
+    ∷ answers (describe 16 [] []) 0 0
+    ∷ answers (describe 17 [] []) 1 0
+    ∷ answers (1 ∷ 0 ∷ 0 ∷ 6 ∷ 6 ∷ []) 1 5
     -- a word more than the total is refused with 2
-    ∷ answers (1 ∷ 0 ∷ 0 ∷ 6 ∷ 6 ∷ 6 ∷ 0 ∷ []) 2
+    ∷ answers (1 ∷ 0 ∷ 0 ∷ 6 ∷ 6 ∷ 6 ∷ 0 ∷ []) 2 5
     -- 15 words of an expression are taken, 16 refused with 3; 8 ways taken, 9 refused with 3
-    ∷ answers (describe 1 ((0 ∷ 0 ∷ 15 ∷ (replicate 14 6 ++ (0 ∷ []))) ∷ []) []) 0
-    ∷ answers (describe 1 ((0 ∷ 0 ∷ 16 ∷ (replicate 15 6 ++ (0 ∷ []))) ∷ []) []) 3
-    ∷ answers (describe 1 [] (feeds 0 (replicate 8 0) ∷ [])) 0
-    ∷ answers (describe 1 [] (feeds 0 (replicate 9 0) ∷ [])) 3
+    ∷ answers (describe 1 ((0 ∷ 0 ∷ 15 ∷ (replicate 14 6 ++ (0 ∷ []))) ∷ []) []) 0 0
+    ∷ answers (describe 1 ((0 ∷ 0 ∷ 16 ∷ (replicate 15 6 ++ (0 ∷ []))) ∷ []) []) 3 8
+    ∷ answers (describe 1 [] (feeds 0 (replicate 8 0) ∷ [])) 0 0
+    ∷ answers (describe 1 [] (feeds 0 (replicate 9 0) ∷ [])) 3 8
     -- words left over are refused with 3, and a board number equal to V with 4; within a line 3 comes before 4, and 4 before 5
-    ∷ answers (1 ∷ 0 ∷ 0 ∷ 6 ∷ 7 ∷ 7 ∷ 0 ∷ []) 3
-    ∷ answers (describe 2 (is 0 same 2 ∷ []) []) 4
-    ∷ answers (describe 1 ((1 ∷ 0 ∷ 0 ∷ []) ∷ []) []) 3
-    ∷ answers (describe 1 ((1 ∷ 0 ∷ 1 ∷ 8 ∷ []) ∷ []) []) 4
+    ∷ answers (1 ∷ 0 ∷ 0 ∷ 6 ∷ 7 ∷ 7 ∷ 0 ∷ []) 3 6
+    ∷ answers (describe 2 (is 0 same 2 ∷ []) []) 4 7
+    ∷ answers (describe 1 ((1 ∷ 0 ∷ 0 ∷ []) ∷ []) []) 3 8
+    ∷ answers (describe 1 ((1 ∷ 0 ∷ 1 ∷ 8 ∷ []) ∷ []) []) 4 6
     -- the first faulty line decides: a 5 in line 0 comes before a 3 in line 1
-    ∷ answers (describe 1 ((0 ∷ 0 ∷ 1 ∷ 8 ∷ []) ∷ (0 ∷ 0 ∷ 0 ∷ []) ∷ []) []) 5
+    ∷ answers (describe 1 ((0 ∷ 0 ∷ 1 ∷ 8 ∷ []) ∷ (0 ∷ 0 ∷ 0 ∷ []) ∷ []) []) 5 9
     -- One kind code means one number of ways (02, request 2). Two lines of one code with 1 and 2 ways are refused with 11, as are those with none and 1
-    ∷ answers (describe 2 [] (feeds 0 (1 ∷ []) ∷ feeds 1 (0 ∷ 0 ∷ []) ∷ [])) 11
-    ∷ answers (describe 2 [] (feeds 0 [] ∷ feeds 1 (0 ∷ []) ∷ [])) 11
+    ∷ answers (describe 2 [] (feeds 0 (1 ∷ []) ∷ feeds 1 (0 ∷ 0 ∷ []) ∷ [])) 11 12
+    ∷ answers (describe 2 [] (feeds 0 [] ∷ feeds 1 (0 ∷ []) ∷ [])) 11 11
     -- of two codes they are good, and so are two of one code with as many ways, other ones or the same
-    ∷ answers (describe 2 [] (feeds 0 (1 ∷ []) ∷ feedsAs 8 1 (0 ∷ 0 ∷ []) ∷ [])) 0
-    ∷ answers (describe 2 [] (feeds 0 (1 ∷ []) ∷ feeds 1 (0 ∷ []) ∷ [])) 0
+    ∷ answers (describe 2 [] (feeds 0 (1 ∷ []) ∷ feedsAs 8 1 (0 ∷ 0 ∷ []) ∷ [])) 0 0
+    ∷ answers (describe 2 [] (feeds 0 (1 ∷ []) ∷ feeds 1 (0 ∷ []) ∷ [])) 0 0
     -- a line of another code may stand between the two
-    ∷ answers (describe 2 [] (feeds 0 (1 ∷ []) ∷ feedsAs 8 0 (1 ∷ []) ∷ feeds 1 (0 ∷ 0 ∷ []) ∷ [])) 11
+    ∷ answers (describe 2 [] (feeds 0 (1 ∷ []) ∷ feedsAs 8 0 (1 ∷ []) ∷ feeds 1 (0 ∷ 0 ∷ []) ∷ [])) 11 16
     -- the first line that disagrees counts: line 1 of 1, 2 and 3 ways, line 2 of 1, 1 and 2, line 2 where line 1 has another code; of 1 and 1 there is none
     ∷ disagreesFirst (panelOf 7 1 ∷ panelOf 7 2 ∷ panelOf 7 3 ∷ []) 1
     ∷ disagreesFirst (panelOf 7 1 ∷ panelOf 7 1 ∷ panelOf 7 2 ∷ []) 2
     ∷ disagreesFirst (panelOf 7 1 ∷ panelOf 8 2 ∷ panelOf 7 2 ∷ []) 2
     ∷ disagreesFirst (panelOf 7 1 ∷ panelOf 7 1 ∷ []) 2
     -- 11 comes after 1 and 2,
-    ∷ answers (describe 17 [] (feeds 0 (1 ∷ []) ∷ feeds 1 (0 ∷ 0 ∷ []) ∷ [])) 1
-    ∷ answers (describe 2 [] (feeds 0 (1 ∷ []) ∷ feeds 1 (0 ∷ 0 ∷ []) ∷ []) ++ (0 ∷ [])) 2
+    ∷ answers (describe 17 [] (feeds 0 (1 ∷ []) ∷ feeds 1 (0 ∷ 0 ∷ []) ∷ [])) 1 0
+    ∷ answers (describe 2 [] (feeds 0 (1 ∷ []) ∷ feeds 1 (0 ∷ 0 ∷ []) ∷ []) ++ (0 ∷ [])) 2 5
     -- after a 3, a 4 or a 5 in a relation line, after a 3 or a 4 in a later kind line, and after words left over
-    ∷ answers (describe 2 ((0 ∷ 0 ∷ 0 ∷ []) ∷ []) (feeds 0 (1 ∷ []) ∷ feeds 1 (0 ∷ 0 ∷ []) ∷ [])) 3
-    ∷ answers (describe 2 (is 0 same 2 ∷ []) (feeds 0 (1 ∷ []) ∷ feeds 1 (0 ∷ 0 ∷ []) ∷ [])) 4
-    ∷ answers (describe 2 ((0 ∷ 0 ∷ 1 ∷ 8 ∷ []) ∷ []) (feeds 0 (1 ∷ []) ∷ feeds 1 (0 ∷ 0 ∷ []) ∷ [])) 5
-    ∷ answers (describe 2 [] (feeds 0 (1 ∷ []) ∷ feeds 1 (0 ∷ 0 ∷ []) ∷ feedsAs 8 0 (replicate 9 1) ∷ [])) 3
-    ∷ answers (describe 2 [] (feeds 0 (1 ∷ []) ∷ feeds 1 (0 ∷ 0 ∷ []) ∷ feedsAs 8 2 [] ∷ [])) 4
-    ∷ answers (2 ∷ 0 ∷ 2 ∷ 6 ∷ 6 ∷ 16 ∷ 0 ∷ 7 ∷ 1 ∷ 1 ∷ 1 ∷ 7 ∷ 2 ∷ 0 ∷ 0 ∷ 0 ∷ []) 3
+    ∷ answers (describe 2 ((0 ∷ 0 ∷ 0 ∷ []) ∷ []) (feeds 0 (1 ∷ []) ∷ feeds 1 (0 ∷ 0 ∷ []) ∷ [])) 3 8
+    ∷ answers (describe 2 (is 0 same 2 ∷ []) (feeds 0 (1 ∷ []) ∷ feeds 1 (0 ∷ 0 ∷ []) ∷ [])) 4 7
+    ∷ answers (describe 2 ((0 ∷ 0 ∷ 1 ∷ 8 ∷ []) ∷ []) (feeds 0 (1 ∷ []) ∷ feeds 1 (0 ∷ 0 ∷ []) ∷ [])) 5 9
+    ∷ answers (describe 2 [] (feeds 0 (1 ∷ []) ∷ feeds 1 (0 ∷ 0 ∷ []) ∷ feedsAs 8 0 (replicate 9 1) ∷ [])) 3 17
+    ∷ answers (describe 2 [] (feeds 0 (1 ∷ []) ∷ feeds 1 (0 ∷ 0 ∷ []) ∷ feedsAs 8 2 [] ∷ [])) 4 15
+    ∷ answers (2 ∷ 0 ∷ 2 ∷ 6 ∷ 6 ∷ 16 ∷ 0 ∷ 7 ∷ 1 ∷ 1 ∷ 1 ∷ 7 ∷ 2 ∷ 0 ∷ 0 ∷ 0 ∷ []) 3 15
     -- and before 6, and so before all that follows it
-    ∷ refuses (describe 2 [] (feeds 0 (1 ∷ []) ∷ feeds 1 (0 ∷ 0 ∷ []) ∷ [])) (15 ∷ []) 0 11
-    ∷ refuses (describe 2 [] (feeds 0 (1 ∷ []) ∷ feeds 1 (0 ∷ 0 ∷ []) ∷ [])) (filled 2) 0 11
+    ∷ refuses (describe 2 [] (feeds 0 (1 ∷ []) ∷ feeds 1 (0 ∷ 0 ∷ []) ∷ [])) (15 ∷ []) 0 11 12
+    ∷ refuses (describe 2 [] (feeds 0 (1 ∷ []) ∷ feeds 1 (0 ∷ 0 ∷ []) ∷ [])) (filled 2) 0 11 12
     -- a table of one cell for two boards is refused with 6 where no line disagrees
-    ∷ refuses (describe 2 [] (feeds 0 (1 ∷ []) ∷ feeds 1 (0 ∷ []) ∷ [])) (15 ∷ []) 0 6
+    ∷ refuses (describe 2 [] (feeds 0 (1 ∷ []) ∷ feeds 1 (0 ∷ []) ∷ [])) (15 ∷ []) 0 6 0
+    -- A refusal says where (02, request 3). 1: after the words where they are too few, else at the number that is out of range, the first of several
+    ∷ answers [] 1 0
+    ∷ answers (1 ∷ []) 1 1
+    ∷ answers (0 ∷ 0 ∷ 0 ∷ 6 ∷ 6 ∷ 6 ∷ []) 1 0
+    ∷ answers (1 ∷ 129 ∷ 0 ∷ 6 ∷ 6 ∷ 6 ∷ []) 1 1
+    ∷ answers (1 ∷ 0 ∷ 17 ∷ 6 ∷ 6 ∷ 6 ∷ []) 1 2
+    ∷ answers (17 ∷ 129 ∷ 17 ∷ 5 ∷ 5 ∷ 5 ∷ []) 1 0
+    -- 2: at the relation offset, at a kind offset below 6 or above the total, at the total; at the first of several
+    ∷ answers (1 ∷ 0 ∷ 0 ∷ 7 ∷ 6 ∷ 6 ∷ []) 2 3
+    ∷ answers (1 ∷ 0 ∷ 0 ∷ 6 ∷ 5 ∷ 6 ∷ []) 2 4
+    ∷ answers (1 ∷ 0 ∷ 0 ∷ 6 ∷ 7 ∷ 6 ∷ []) 2 4
+    ∷ answers (1 ∷ 0 ∷ 0 ∷ 6 ∷ 6 ∷ 7 ∷ []) 2 5
+    ∷ answers (1 ∷ 0 ∷ 0 ∷ 5 ∷ 5 ∷ 5 ∷ []) 2 3
+    -- 3: at the section's end where it has no word for a line, one, or two; also where kind lines stand behind it, and in a second line
+    ∷ answers (1 ∷ 1 ∷ 0 ∷ 6 ∷ 6 ∷ 6 ∷ []) 3 6
+    ∷ answers (1 ∷ 1 ∷ 0 ∷ 6 ∷ 7 ∷ 7 ∷ 0 ∷ []) 3 7
+    ∷ answers (1 ∷ 1 ∷ 0 ∷ 6 ∷ 8 ∷ 8 ∷ 0 ∷ 0 ∷ []) 3 8
+    ∷ answers (1 ∷ 1 ∷ 1 ∷ 6 ∷ 8 ∷ 11 ∷ 0 ∷ 0 ∷ 0 ∷ 7 ∷ 0 ∷ []) 3 8
+    ∷ answers (1 ∷ 2 ∷ 0 ∷ 6 ∷ 11 ∷ 11 ∷ 0 ∷ 0 ∷ 1 ∷ 0 ∷ 0 ∷ []) 3 11
+    ∷ answers (1 ∷ 0 ∷ 1 ∷ 6 ∷ 6 ∷ 6 ∷ []) 3 6
+    ∷ answers (1 ∷ 0 ∷ 1 ∷ 6 ∷ 6 ∷ 8 ∷ 0 ∷ 7 ∷ []) 3 8
+    -- at a length or a number of ways out of range, even if the line runs past its section too; at the section's end if that is all
+    ∷ answers (1 ∷ 1 ∷ 0 ∷ 6 ∷ 9 ∷ 9 ∷ 0 ∷ 0 ∷ 16 ∷ []) 3 8
+    ∷ answers (1 ∷ 0 ∷ 1 ∷ 6 ∷ 6 ∷ 9 ∷ 0 ∷ 7 ∷ 9 ∷ []) 3 8
+    ∷ answers (1 ∷ 1 ∷ 1 ∷ 6 ∷ 10 ∷ 13 ∷ 0 ∷ 0 ∷ 2 ∷ 6 ∷ 0 ∷ 7 ∷ 0 ∷ []) 3 10
+    ∷ answers (1 ∷ 0 ∷ 1 ∷ 6 ∷ 6 ∷ 10 ∷ 0 ∷ 7 ∷ 2 ∷ 0 ∷ []) 3 10
+    -- at the first word left over, after relation lines and after kind lines
+    ∷ answers (1 ∷ 1 ∷ 0 ∷ 6 ∷ 12 ∷ 12 ∷ 0 ∷ 0 ∷ 1 ∷ 0 ∷ 5 ∷ 5 ∷ []) 3 10
+    ∷ answers (1 ∷ 0 ∷ 1 ∷ 6 ∷ 6 ∷ 10 ∷ 0 ∷ 7 ∷ 0 ∷ 9 ∷ []) 3 9
+    -- 4: at p, or else at q; at the panel, or else at the first of its ways that is no board; in a second line, and behind a relation line
+    ∷ answers (describe 2 (is 2 same 2 ∷ []) []) 4 6
+    ∷ answers (describe 2 (is 0 same 1 ∷ is 0 same 2 ∷ []) []) 4 11
+    ∷ answers (describe 2 [] (feeds 2 (2 ∷ []) ∷ [])) 4 6
+    ∷ answers (describe 2 [] (feeds 0 (2 ∷ 1 ∷ 2 ∷ []) ∷ [])) 4 9
+    ∷ answers (describe 2 [] (feeds 0 (1 ∷ 1 ∷ 2 ∷ []) ∷ [])) 4 11
+    ∷ answers (describe 2 (is 0 same 1 ∷ []) (feeds 0 (1 ∷ 2 ∷ []) ∷ [])) 4 14
+    -- 5: at a code above 7, in the middle and at the end; at the first word left over, whatever it is
+    ∷ answers (describe 1 ((0 ∷ 0 ∷ 3 ∷ 4 ∷ 8 ∷ 0 ∷ []) ∷ []) []) 5 10
+    ∷ answers (describe 1 ((0 ∷ 0 ∷ 3 ∷ 4 ∷ 0 ∷ 8 ∷ []) ∷ []) []) 5 11
+    ∷ answers (describe 1 ((0 ∷ 0 ∷ 3 ∷ 0 ∷ 1 ∷ 2 ∷ []) ∷ []) []) 5 10
+    ∷ answers (describe 1 ((0 ∷ 0 ∷ 2 ∷ 0 ∷ 9 ∷ []) ∷ []) []) 5 10
+    -- just after the expression where words are missing: of one word, of 15, and of a line that is not the last
+    ∷ answers (describe 1 ((0 ∷ 0 ∷ 1 ∷ 6 ∷ []) ∷ []) []) 5 10
+    ∷ answers (describe 1 ((0 ∷ 0 ∷ 15 ∷ replicate 15 6) ∷ []) []) 5 24
+    ∷ answers (describe 1 ((0 ∷ 0 ∷ 2 ∷ 4 ∷ 0 ∷ []) ∷ is 0 same 0 ∷ []) []) 5 11
+    -- 11: at the number of ways, behind a relation line
+    ∷ answers (describe 2 (is 0 same 1 ∷ []) (feeds 0 (1 ∷ []) ∷ feeds 1 (0 ∷ 0 ∷ []) ∷ [])) 11 16
+    -- every call says where, also if its table is no table
+    ∷ refuses (describe 2 (is 0 same 2 ∷ []) []) (16 ∷ []) 0 4 7
+    ∷ refuses (describe 2 ((0 ∷ 1 ∷ 2 ∷ 4 ∷ 0 ∷ []) ∷ is 0 same 1 ∷ []) []) (filled 2) 0 5 11
     ∷ []
 
 -- Larger sites, which take longer to compute.

@@ -1,8 +1,9 @@
 -- Expressions in prefix order (01, 'The description'): their meaning, and when they are refused.
 -- Assumes nothing.
+use mathlib.Core.Path.{_≡_}
 use mathlib.Core.List.{List, [], _∷_, _++_}
-use Prim.Native.Nat.{ℕ, zero, suc}
-use lib.ListN.{length, getD}
+use Prim.Native.Nat.{ℕ, zero, suc, _≤_}
+use lib.ListN.{length, getD, take}
 use Rattle.rules.specs.Relations.{E, A, B, S, join, meet, complement, converse}
 
 -- a code stands for a set, for an operator with two operands or with one, or for nothing
@@ -19,27 +20,28 @@ codes = relation E ∷ relation A ∷ relation B ∷ relation S ∷ two join ∷
 unfoldable pub code : ℕ → Code
 code w = getD codes w unknown
 
--- an expression at the front of some words: its set and the words after it; or there is none
+-- an expression at the front of some words: its set and the words after it; or there is none, and the words from the first that goes on with none
 pub data Value : Type 0 where
   value : ℕ → List ℕ → Value
-  malformed : Value
+  malformed : List ℕ → Value
 
 abbrev pub andThen : Value → (ℕ → List ℕ → Value) → Value
 andThen (value x ws) f = f x ws
-andThen malformed f = malformed
+andThen (malformed ws) f = malformed ws
 
--- An operator is followed by its operands, each a whole expression, which `operand` reads off the words left.
-unfoldable pub follow : (List ℕ → Value) → Code → List ℕ → Value
-follow operand (relation x) ws = value x ws
-follow operand (two f) ws = andThen (operand ws) (λ x more. andThen (operand more) (λ y rest. value (f x y) rest))
-follow operand (one f) ws = andThen (operand ws) (λ x rest. value (f x) rest)
-follow operand unknown ws = malformed
+-- The word w has this code. An operator is followed by its operands, each a whole expression, which `operand` reads off the words left; there the first that fails
+-- is where the whole fails, and a code that stands for nothing fails itself.
+unfoldable pub follow : (List ℕ → Value) → Code → ℕ → List ℕ → Value
+follow operand (relation x) w ws = value x ws
+follow operand (two f) w ws = andThen (operand ws) (λ x more. andThen (operand more) (λ y rest. value (f x y) rest))
+follow operand (one f) w ws = andThen (operand ws) (λ x rest. value (f x) rest)
+follow operand unknown w ws = malformed (w ∷ ws)
 
 -- the expression at the front of words of which there are at most n
 unfoldable pub evaluate : ℕ → List ℕ → Value
-evaluate zero ws = malformed
-evaluate (suc n) [] = malformed
-evaluate (suc n) (w ∷ ws) = follow (λ left. evaluate n left) (code w) ws
+evaluate zero ws = malformed ws
+evaluate (suc n) [] = malformed []
+evaluate (suc n) (w ∷ ws) = follow (λ left. evaluate n left) (code w) w ws
 
 -- The expression must use its whole length and no more: its set, with no word after it.
 unfoldable pub expression : List ℕ → Value
@@ -70,3 +72,13 @@ denoted (unionOf a b) = join (denoted a) (denoted b)
 denoted (intersectionOf a b) = meet (denoted a) (denoted b)
 denoted (complementOf a) = complement (denoted a)
 denoted (inverseOf a) = converse (denoted a)
+
+-- some expression begins with these words
+abbrev pub Begins : List ℕ → Type 0
+Begins ws = (e : Phrase) × (more : List ℕ) × (written e ≡ ws ++ more)
+
+-- k is the length of the longest beginning of the words that some expression begins with: what the place of a refused expression is shown to be
+pub record Longest (ws : List ℕ) (k : ℕ) : Type 0 where
+  pub within : k ≤ length ws
+  pub begins : Begins (take k ws)
+  pub longest : (j : ℕ) → j ≤ length ws → Begins (take j ws) → j ≤ k

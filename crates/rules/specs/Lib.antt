@@ -2,6 +2,7 @@
 pub mod Relations
 pub mod Expressions
 pub mod Descriptions
+pub mod Places
 pub mod Tables
 pub mod Arrangements
 pub mod Closed

@@ -1,17 +1,18 @@
 -- A section of kind lines, by whether its lines fill it and then by the first that disagrees with an earlier one. Assumes nothing.
 use mathlib.Core.Path.{_≡_, refl, sym, ap, _∙_}
+use mathlib.Core.Logic.{_⊎_, ⊎-elim}
 use mathlib.Core.List.{List, []}
-use Prim.Native.Nat.{ℕ, _≤_, _<_}
-use native.Mathlib.Nat.{le-refl}
+use Prim.Native.Nat.{ℕ, _+_, _≤_, _<_}
+use native.Mathlib.Nat.{le-refl, eq-or-lt-of-le}
 use native.Mathlib.Omega.{arith}
-use lib.ListN.{length}
+use lib.ListN.{length, take}
 use lib.Seq.{take-all}
-use Rattle.rules.specs.Descriptions.{KindLine, Reading, good, refused, next, kindLine, section, firstDisagreeing, agreed}
+use Rattle.rules.specs.Descriptions.{KindLine, Reading, good, refused, next, kindLine, section, firstDisagreeing, kindWords, agreed, OneArity}
 use Rattle.rules.proofs.Tests.{clash}
+use Rattle.rules.proofs.KindWords.{section-words, words-before}
 use Rattle.rules.proofs.Arities.{first-few, none-disagreeing, agreed-in, agreed-refused}
-use Rattle.rules.proofs.Descriptions.{section-counted}
 use Rattle.kinds.specs.Sections.{HasKinds}
-use Rattle.arities.specs.Arities.{SomeFirst, WithFirst}
+use Rattle.arities.specs.Arities.{SomeFill, WithAll}
 use Rattle.answers.specs.declared.refusals.Refusal.{Refusal}
 use Rattle.answers.specs.Answers.{refusal}
 use Rattle.sheet.specs.declared.sections.SectionFound.the-variants.{Filled, Refused}
@@ -28,7 +29,7 @@ module _ (v count : ℕ) (ws : List ℕ) where
     where
       go : (r : Reading (List KindLine)) → Refused q ≡ sectionFound r → Refused q ≡ sectionFound (found r)
       go (good ks) p = clash (cc)
-      go (refused n) p = p
+      go (refused n k) p = p
 
   module _ (filled : Filled ≡ sectionFound (section (kindLine v) count ws)) where
     has-kinds : HasKinds v count ws
@@ -36,31 +37,48 @@ module _ (v count : ℕ) (ws : List ℕ) where
       where
         go : (r : Reading (List KindLine)) → section (kindLine v) count ws ≡ r → Filled ≡ sectionFound r → HasKinds v count ws
         go (good ks) e p = (ks, e)
-        go (refused n) e p = clash (cc)
+        go (refused n k) e p = clash (cc)
 
-    pub kinds-first : SomeFirst count ws
-    kinds-first = (v, count, le-refl count, has-kinds)
+    pub kinds-first : SomeFill count ws
+    kinds-first = (v, has-kinds)
 
-    -- n is the number of the first that disagrees
-    module _ {n : ℕ} (first : WithFirst count ws (λ ks. n ≡ firstDisagreeing [] ks)) where
+    -- the first that disagrees begins at the word n
+    module _ {n : ℕ} (first : WithAll count ws (λ ks. n ≡ kindWords (take (firstDisagreeing [] ks) ks))) where
       abbrev lines : List KindLine
       lines = has-kinds .0
 
-      counted : length lines ≡ count
-      counted = section-counted (kindLine v) count ws lines (has-kinds .1)
+      filling : kindWords lines ≡ length ws
+      filling = section-words v count ws lines (has-kinds .1)
 
-      is-first : n ≡ firstDisagreeing [] lines
-      is-first =
-          first v count (le-refl count) lines (has-kinds .1) ∙ ap (firstDisagreeing []) (take-all count lines (omega (arith, counted)))
+      begins : n ≡ kindWords (take (firstDisagreeing [] lines) lines)
+      begins = first v lines (has-kinds .1)
 
-      pub kinds-disagree : n < count → Refused (refusal 11) ≡ sectionFound (found (section (kindLine v) count ws))
+      -- it is not past the lines, or it is
+      past : (firstDisagreeing [] lines ≡ length lines) ⊎ (firstDisagreeing [] lines < length lines)
+      past = eq-or-lt-of-le (first-few [] lines)
+
+      all-lines : firstDisagreeing [] lines ≡ length lines → n ≡ length ws
+      all-lines e = begins ∙ ap (λ (m : ℕ). kindWords (take m lines)) e ∙ ap kindWords (take-all (length lines) lines (le-refl (length lines))) ∙ filling
+
+      some-lines : firstDisagreeing [] lines < length lines → n + 3 ≤ length ws
+      some-lines l = omega (arith, words-before lines (firstDisagreeing [] lines) l, begins, filling)
+
+      pub kinds-room : n < length ws → n + 3 ≤ length ws
+      kinds-room h = ⊎-elim (λ e. let z : ⊥ = omega (arith, all-lines e) in absurd z) some-lines past
+
+      pub kinds-disagree : n < length ws → Refused (refusal 11 (n + 2)) ≡ sectionFound (found (section (kindLine v) count ws))
       kinds-disagree h =
-          sym
-          (ap (λ (r : Reading (List KindLine)). sectionFound (found r)) (has-kinds .1)
-          ∙ ap sectionFound (agreed-refused lines (λ one. omega (arith, none-disagreeing lines .1 one, is-first, counted))))
+          let some : OneArity lines → ⊥ = λ one. omega (arith, all-lines (none-disagreeing lines .1 one)) in
+          rw begins
+          (sym
+          (ap (λ (r : Reading (List KindLine)). sectionFound (found r)) (has-kinds .1) ∙ ap sectionFound (agreed-refused lines some)))
 
-      pub kinds-agree : count ≤ n → Filled ≡ sectionFound (found (section (kindLine v) count ws))
+      pub kinds-agree : length ws ≤ n → Filled ≡ sectionFound (found (section (kindLine v) count ws))
       kinds-agree h =
           sym
           (ap (λ (r : Reading (List KindLine)). sectionFound (found r)) (has-kinds .1)
-          ∙ ap sectionFound (agreed-in lines (none-disagreeing lines .0 (omega (arith, first-few [] lines, is-first, counted)))))
+          ∙ ap sectionFound (agreed-in lines (none-disagreeing lines .0 none)))
+        where
+          none : firstDisagreeing [] lines ≡ length lines
+          none =
+              ⊎-elim (λ e. e) (λ l. let z : ⊥ = omega (arith, some-lines l) in absurd z) past

@@ -11,12 +11,12 @@ use Rattle.sheet.specs.declared.sections.SectionFound.the-variants as se
 -- whether a section is filled by its lines
 abbrev pub sectionFound : {X : Type 0} → Reading X → SectionFound
 sectionFound (good x) = section.Filled
-sectionFound (refused n) = section.Refused (refusal n)
+sectionFound (refused n k) = section.Refused (refusal n k)
 
--- a section after its last line, by the number of words left over
-abbrev pub endFound : ℕ → SectionFound
-endFound zero = section.Filled
-endFound (suc n) = section.Refused (refusal 3)
+-- a section after its last line, which ends at the word `at`, by the number of words left over
+abbrev pub endFound : ℕ → ℕ → SectionFound
+endFound at zero = section.Filled
+endFound at (suc n) = section.Refused (refusal 3 at)
 
 -- a description that is read to its end
 abbrev pub descriptionFound : List ℕ → HeaderFound

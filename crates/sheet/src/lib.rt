@@ -6,6 +6,8 @@ ghost use Rattle.sheet.specs.Found.{descriptionFound};
 use crate::sections::SectionFound;
 use crate::sections::agreed_section;
 use crate::sections::relation_section;
+use answers::limits::HEADER_WORDS;
+use answers::refusals::later;
 use headers::HeaderFound;
 
 // Reads a whole description: its header, once every line has been read, or the first refusal.
@@ -18,17 +20,13 @@ pub fn description(words: &[u16]) -> HeaderFound
     };
     let boards = h.boards;
     let kinds_at = h.kinds.at;
-    let lines = relation_section(
-        boards,
-        h.lines.count,
-        &words[answers::limits::HEADER_WORDS..kinds_at],
-    );
+    let lines = relation_section(boards, h.lines.count, &words[HEADER_WORDS..kinds_at]);
     if let SectionFound::Refused(r) = lines {
-        return HeaderFound::Refused(r);
+        return HeaderFound::Refused(later(HEADER_WORDS, r));
     }
     let kinds = agreed_section(boards, h.kinds.count, &words[kinds_at..]);
     if let SectionFound::Refused(r) = kinds {
-        return HeaderFound::Refused(r);
+        return HeaderFound::Refused(later(kinds_at, r));
     }
     HeaderFound::Good(h)
 }

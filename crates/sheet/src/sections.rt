@@ -5,21 +5,25 @@ ghost use Rattle.sheet.specs.Found.{sectionFound, endFound};
 use answers::refusals::DISAGREES;
 use answers::refusals::Refusal;
 use answers::refusals::UNFIT;
+use answers::refusals::later;
 use kind_lines::KindFound;
 use lines::RelationFound;
 
-// A section that its lines fill, or the first refusal in it.
+// A section that its lines fill, or the first refusal in it, with its place in the section.
 pub(crate) enum SectionFound {
     Filled,
     Refused(Refusal),
 }
 
-// A section after its last line: words left over are refused.
-fn ended(over: usize) -> SectionFound
-    ensures { λ r. ⌜ r ≡ endFound over ⌝ }
+// A section after its last line, at this word: words left over are refused.
+fn ended(at: usize, over: usize) -> SectionFound
+    ensures { λ r. ⌜ r ≡ endFound at over ⌝ }
 {
     if 0 < over {
-        SectionFound::Refused(Refusal { number: UNFIT })
+        SectionFound::Refused(Refusal {
+            number: UNFIT,
+            place: at,
+        })
     } else {
         SectionFound::Filled
     }
@@ -34,12 +38,12 @@ pub(crate) fn relation_section(v: usize, count: usize, words: &[u16]) -> Section
     while 0 < left {
         let rest = match lines::relation_line(v, &words[at..]) {
             RelationFound::Line(_, rest) => rest,
-            RelationFound::Refused(r) => return SectionFound::Refused(r),
+            RelationFound::Refused(r) => return SectionFound::Refused(later(at, r)),
         };
         at = words.len() - rest;
         left -= 1;
     }
-    ended(words.len() - at)
+    ended(at, words.len() - at)
 }
 
 // Reads a section of `count` kind lines, for boards below v.
@@ -51,15 +55,15 @@ fn kind_section(v: usize, count: usize, words: &[u16]) -> SectionFound
     while 0 < left {
         let rest = match kind_lines::kind_line(v, &words[at..]) {
             KindFound::Line(rest) => rest,
-            KindFound::Refused(r) => return SectionFound::Refused(r),
+            KindFound::Refused(r) => return SectionFound::Refused(later(at, r)),
         };
         at = words.len() - rest;
         left -= 1;
     }
-    ended(words.len() - at)
+    ended(at, words.len() - at)
 }
 
-// Reads a section of `count` kind lines, for boards below v, and then looks for one that disagrees with an earlier one.
+// Reads a section of `count` kind lines, for boards below v, and then looks for one that disagrees with an earlier one: it is refused at its number of ways.
 pub(crate) fn agreed_section(v: usize, count: usize, words: &[u16]) -> SectionFound
     ensures { λ r. ⌜ r ≡ sectionFound (next (section (kindLine v) count (now (words .entry))) agreed) ⌝ }
 {
@@ -67,8 +71,12 @@ pub(crate) fn agreed_section(v: usize, count: usize, words: &[u16]) -> SectionFo
     if let SectionFound::Refused(r) = kinds {
         return SectionFound::Refused(r);
     }
-    if arities::first_disagreeing(count, words) < count {
-        return SectionFound::Refused(Refusal { number: DISAGREES });
+    let at = arities::first_disagreeing(count, words);
+    if at < words.len() {
+        return SectionFound::Refused(Refusal {
+            number: DISAGREES,
+            place: at + 2,
+        });
     }
     SectionFound::Filled
 }

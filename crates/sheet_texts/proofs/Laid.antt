@@ -79,7 +79,7 @@ described-laid : (v : ℕ) (rs ks : List (List ℕ)) → All TypableRelation rs 
     → Laid (describe v rs ks)
 described-laid v rs ks f g s e =
     let ws = describe v rs ks in
-    let r = read-out ws s e .numbers in
+    let r = read-out ws s e .taken .numbers in
     let (a, b) = lines-good v rs ks (λ w m. relation-line (f w m)) (λ w m. kind-line (g w m)) s e in
     let last = lines-begin IsKind ks (λ w m. kind-stands v (r .boards) (g w m) (each-read (kindLine v) b w m)) [] in
     record {

@@ -17,7 +17,7 @@ pub read-asks-nothing : AsksNothing 1 read-kinds.ps read.Asked
 read-asks-nothing κs a = tt
 
 pub read-determined : OneResult 1 read-kinds.ps read-kinds.r read.Asked read.Learnt
-read-determined κs a asked x y d e p q = p ∙ sym q
+read-determined κs a asked x y d e p q = outcome-determined x y tt tt (p ∙ sym q) .0
 
 pub fresh-asks-nothing : AsksNothing 1 fresh-kinds.ps fresh.Asked
 fresh-asks-nothing κs a = tt

@@ -2,23 +2,25 @@
 ghost use mathlib.Core.Path.{_≡_};
 ghost use Rattle.rules.specs.Search.{plainOrder};
 ghost use Rattle.rules.specs.Calls.{reading, fresh, close, searching, check};
-ghost use Rattle.answers.specs.Answers.{answered, outcome};
+ghost use Rattle.answers.specs.Answers.{outcome};
 use answers::Answer;
 use answers::limits::MOST_BOARDS;
 use answers::refusals::NO_TABLE;
 use answers::refusals::OUT_OF_RANGE;
 use answers::refuse;
+use answers::refuse_at;
 use answers::succeed;
 use headers::HeaderFound;
 use relations::RELATIONS;
 
-// Reads a description: 0 if it is good, or its first refusal, 1 to 5 or 11.
+// Reads a description: 0 if it is good, or its first refusal, 1 to 5 or 11, with its place: the index of the first word that breaks the rule or, where words are
+// missing, the place just after those that there are.
 pub fn read(words: &[u16]) -> Answer
-    ensures { λ a. ⌜ a ≡ answered (reading (now (words .entry))) 0 ⌝ }
+    ensures { λ a. ⌜ outcome a tt ≡ reading (now (words .entry)) ⌝ }
 {
     match sheet::description(words) {
         HeaderFound::Good(_) => succeed(0),
-        HeaderFound::Refused(refusal) => refuse(refusal.number, 0),
+        HeaderFound::Refused(refusal) => refuse_at(refusal),
     }
 }
 
@@ -44,7 +46,7 @@ pub fn close(words: &[u16], table: &mut [u8]) -> Answer
 {
     match opening::admit(words, table) {
         HeaderFound::Good(h) => closing::close_table(h, words, table),
-        HeaderFound::Refused(r) => refuse(r.number, 0),
+        HeaderFound::Refused(r) => refuse_at(r),
     }
 }
 
@@ -66,7 +68,7 @@ pub fn search(words: &[u16], table: &mut [u8], budget: u32) -> Answer
             let order = plain_order();
             search::search_table(h, words, &order, budget, table)
         }
-        HeaderFound::Refused(r) => refuse(r.number, 0),
+        HeaderFound::Refused(r) => refuse_at(r),
     }
 }
 
@@ -77,6 +79,6 @@ pub fn check(words: &[u16], table: &[u8]) -> Answer
 {
     match opening::admit(words, table) {
         HeaderFound::Good(h) => checking::check_table(h, words, table),
-        HeaderFound::Refused(r) => refuse(r.number, 0),
+        HeaderFound::Refused(r) => refuse_at(r),
     }
 }

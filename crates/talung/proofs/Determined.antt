@@ -1,5 +1,4 @@
 -- The calls for C take whatever they are lent, and any two numbers, and tables or rooms, that a contract permits are equal. Assumes nothing.
-use mathlib.Core.Path.{sym, _∙_}
 use Rattle.contracts.specs.Contracts.{AsksNothing, OneResult, OneOutcome}
 use Rattle.talung.proofs.Packing.{packed-determined}
 use Rattle.talung.proofs.talung_read.Kinds as talung-read-kinds
@@ -21,7 +20,7 @@ pub talung-read-asks-nothing : AsksNothing 1 talung-read-kinds.ps talung-read.As
 talung-read-asks-nothing κs a = tt
 
 pub talung-read-determined : OneResult 1 talung-read-kinds.ps talung-read-kinds.r talung-read.Asked talung-read.Learnt
-talung-read-determined κs a asked x y d e p q = p ∙ sym q
+talung-read-determined κs a asked x y d e p q = packed-determined p q .0
 
 pub talung-fresh-asks-nothing : AsksNothing 1 talung-fresh-kinds.ps talung-fresh.Asked
 talung-fresh-asks-nothing κs a = tt

@@ -16,39 +16,39 @@ use Rattle.rules.proofs.Tests.{clash}
 use Rattle.rules.proofs.Descriptions.{read-bounded}
 use Rattle.talung.proofs.Packing.{mostNumber}
 
-abbrev Numbered : Outcome (List ℕ) → Type 0
+abbrev Numbered : {L : Type 0} → Outcome L → Type 0
 Numbered o = o .number ≤ mostNumber
 
-either : (b : Bool) (x y : Outcome (List ℕ)) → Numbered x → Numbered y → Numbered (elim b [ true ↦ x | false ↦ y ])
+either : (b : Bool) (x y : Outcome (List ℕ)) → Numbered x → Numbered y → Numbered {L = List ℕ} (elim b [ true ↦ x | false ↦ y ])
 either true x y h k = h
 either false x y h k = k
 
-admitted-numbered : (ws t : List ℕ) (n : ℕ) → admitted ws t ≡ refused n → n ≤ mostNumber
+admitted-numbered : (ws t : List ℕ) (n k : ℕ) → admitted ws t ≡ refused n k → n ≤ mostNumber
 unfolding admitted
-admitted-numbered ws t n p = by (read ws) refl p
+admitted-numbered ws t n k p = by (read ws) refl p
   where
-    by : (r : Reading Sheet) → read ws ≡ r → next r (λ s. need 6 (wellFormed (s .boards) t) (good s)) ≡ refused n → n ≤ mostNumber
+    by : (r : Reading Sheet) → read ws ≡ r → next r (λ s. need 6 0 (wellFormed (s .boards) t) (good s)) ≡ refused n k → n ≤ mostNumber
     by (good s) e p = formed (wellFormed (s .boards) t) p
       where
-        formed : (b : Bool) → need 6 b (good s) ≡ refused n → n ≤ mostNumber
+        formed : (b : Bool) → need 6 0 b (good s) ≡ refused n k → n ≤ mostNumber
         formed true q = clash (cc)
         formed false q = let f : 6 ≡ n = cc in omega arith
-    by (refused m) e p = let f : m ≡ n = cc in omega (arith, read-bounded ws m e)
+    by (refused m i) e p = let f : m ≡ n = cc in omega (arith, read-bounded ws m i e)
 
 given-numbered : (ws t : List ℕ) (f : Sheet → Outcome (List ℕ)) → ((s : Sheet) → Numbered (f s)) → Numbered (given (admitted ws t) t f)
 given-numbered ws t f h = by (admitted ws t) refl
   where
     by : (r : Reading Sheet) → admitted ws t ≡ r → Numbered (given r t f)
     by (good s) e = h s
-    by (refused n) e = admitted-numbered ws t n e
+    by (refused n k) e = admitted-numbered ws t n k e
 
-pub reading-numbered : (ws : List ℕ) → reading ws ≤ mostNumber
+pub reading-numbered : (ws : List ℕ) → Numbered (reading ws)
 unfolding reading
 reading-numbered ws = by (read ws) refl
   where
-    by : (r : Reading Sheet) → read ws ≡ r → elim r [ good s ↦ 0 | refused n ↦ n ] ≤ mostNumber
+    by : (r : Reading Sheet) → read ws ≡ r → Numbered (given {L = Unit {0}} r tt (λ s. succeed 0 tt))
     by (good s) e = omega arith
-    by (refused n) e = omega (arith, read-bounded ws n e)
+    by (refused n k) e = omega (arith, read-bounded ws n k e)
 
 pub fresh-numbered : (v : ℕ) (t : List ℕ) → Numbered (fresh v t)
 unfolding fresh

@@ -4,7 +4,7 @@ use Prim.Native.Nat.{ℕ, _/_, _%_, _≤_}
 use native.Mathlib.Omega.{arith}
 use Rattle.rules.specs.Calls.{Outcome}
 use Rattle.answers.specs.declared.Answer.{Answer}
-use Rattle.answers.specs.Answers.{answered, outcome}
+use Rattle.answers.specs.Answers.{outcome}
 use Rattle.talung.specs.Packed.{countUnit, packed, unpack, Packed}
 
 -- the largest number that a call answers (`Numbers`, and of texts `Rooms` of the demands)
@@ -31,7 +31,3 @@ unpacked n number count h e = (omega arith, omega arith)
 pub unpacks : {L : Type 0} {o : Outcome L} {n : ℕ} {w : L} → o .number ≤ mostNumber → Packed n w o → outcome (unpack n) w ≡ o
 unpacks {o = o} {n = n} few p =
     let u = unpacked n (o .number) (o .count) few (p .answer) in λ i. record { number = u .0 i; count = u .1 i; lent = p .lent i }
-
--- of a call that is lent nothing to write to
-pub unpacks-read : {k n : ℕ} → k ≤ mostNumber → n ≡ packed k 0 → unpack n ≡ answered k 0
-unpacks-read {k} {n} few e = let u = unpacked n k 0 few e in λ i. record { number = u .0 i; count = u .1 i }

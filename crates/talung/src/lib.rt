@@ -23,7 +23,7 @@ fn pack(number: u8, count: u32) -> u64
 // Reads a description, as `solver::read` does.
 #[no_mangle]
 pub extern "C" fn talung_read(words: &[u16]) -> u64
-    ensures { λ n. ⌜ n ≡ packed (reading (now (words .entry))) 0 ⌝ }
+    ensures { λ n. ⌜ Packed n tt (reading (now (words .entry))) ⌝ }
 {
     let read = solver::read(words);
     pack(read.number, read.count)

@@ -24,8 +24,8 @@ pub data Case : Type 0 where
   cramped : (text : String) (room : ℕ) → Case
   -- the words are written so, in room for one byte more
   writes : (words : List ℕ) (text : String) → Case
-  -- the words are refused with this number, even where there is no room
-  unwritten : (words : List ℕ) (number : ℕ) → Case
+  -- the words are refused with this number and this place, even where there is no room
+  unwritten : (words : List ℕ) (number place : ℕ) → Case
   -- the words are refused with 19 in so much room
   tight : (words : List ℕ) (room : ℕ) → Case
 
@@ -35,7 +35,7 @@ CaseHolds (makes t ws) = fromText (bytes t) (replicate (suc (length ws)) 7) ≡ 
 CaseHolds (refuses t n c) = fromText (bytes t) [] ≡ refuse n c []
 CaseHolds (cramped t m) = fromText (bytes t) (replicate m 7) ≡ refuse 19 0 (replicate m 7)
 CaseHolds (writes ws t) = toText ws (replicate (suc (length (bytes t))) 7) ≡ succeed (length (bytes t)) (bytes t ++ (7 ∷ []))
-CaseHolds (unwritten ws n) = toText ws [] ≡ refuse n 0 []
+CaseHolds (unwritten ws n k) = toText ws [] ≡ refuse n k []
 CaseHolds (tight ws m) = toText ws (replicate m 7) ≡ refuse 19 0 (replicate m 7)
 
 -- each of these cases holds
@@ -109,20 +109,20 @@ cases =
     -- then 1, 3 and 4 on the words made, relation lines first
     ∷ refuses "boards 0\n" 1 0
     ∷ refuses "boards 17\n0 above 99\n" 1 0
-    ∷ refuses "boards 1\n0 : 1 ( )\n0 : 1 ( )\n0 : 1 ( )\n0 : 1 ( )\n0 : 1 ( )\n0 : 1 ( )\n0 : 1 ( )\n0 : 1 ( )\n0 : 1 ( )\n0 : 1 ( )\n0 : 1 ( )\n0 : 1 ( )\n0 : 1 ( )\n0 : 1 ( )\n0 : 1 ( )\n0 : 1 ( )\n0 : 1 ( )\n" 1 0
-    ∷ refuses "boards 2\n0 not not not not not not not not not not not not not not not same 1\n" 3 0
-    ∷ refuses "boards 9\n0 : 1 ( 1 2 3 4 5 6 7 8 1 )\n" 3 0
-    ∷ refuses "boards 2\n0 above 2\n" 4 0
-    ∷ refuses "boards 2\n0 : 1 ( 2 )\n" 4 0
-    ∷ refuses "boards 2\n0 : 1 ( 1 1 1 1 1 1 1 1 1 )\n0 above 2\n" 4 0
+    ∷ refuses "boards 1\n0 : 1 ( )\n0 : 1 ( )\n0 : 1 ( )\n0 : 1 ( )\n0 : 1 ( )\n0 : 1 ( )\n0 : 1 ( )\n0 : 1 ( )\n0 : 1 ( )\n0 : 1 ( )\n0 : 1 ( )\n0 : 1 ( )\n0 : 1 ( )\n0 : 1 ( )\n0 : 1 ( )\n0 : 1 ( )\n0 : 1 ( )\n" 1 2
+    ∷ refuses "boards 2\n0 not not not not not not not not not not not not not not not same 1\n" 3 8
+    ∷ refuses "boards 9\n0 : 1 ( 1 2 3 4 5 6 7 8 1 )\n" 3 8
+    ∷ refuses "boards 2\n0 above 2\n" 4 7
+    ∷ refuses "boards 2\n0 : 1 ( 2 )\n" 4 9
+    ∷ refuses "boards 2\n0 : 1 ( 1 1 1 1 1 1 1 1 1 )\n0 above 2\n" 4 7
     ∷ makes "boards 2\n0 not not not not not not not not not not not not not not same 1\n" (2 ∷ 1 ∷ 0 ∷ 6 ∷ 24 ∷ 24 ∷ 0 ∷ 1 ∷ 15 ∷ 6 ∷ 6 ∷ 6 ∷ 6 ∷ 6 ∷ 6 ∷ 6 ∷ 6 ∷ 6 ∷ 6 ∷ 6 ∷ 6 ∷ 6 ∷ 6 ∷ 0 ∷ [])
     -- then 11, where a kind line has the code of an earlier one and another number of ways; after 20, 3 and 4 in later lines
-    ∷ refuses "boards 2\n0 : 7 ( 1 )\n1 : 7 ( 0 0 )\n" 11 0
-    ∷ refuses "boards 2\n0 : 7 ( 1 )\n0 above 1\n1 : 7 ( 0 0 )\n" 11 0
+    ∷ refuses "boards 2\n0 : 7 ( 1 )\n1 : 7 ( 0 0 )\n" 11 12
+    ∷ refuses "boards 2\n0 : 7 ( 1 )\n0 above 1\n1 : 7 ( 0 0 )\n" 11 16
     ∷ makes "boards 2\n0 : 7 ( 1 )\n1 : 8 ( 0 0 )\n" (2 ∷ 0 ∷ 2 ∷ 6 ∷ 6 ∷ 15 ∷ 0 ∷ 7 ∷ 1 ∷ 1 ∷ 1 ∷ 8 ∷ 2 ∷ 0 ∷ 0 ∷ [])
     ∷ refuses "boards 2\n0 : 7 ( 1 )\n1 : 7 ( 0 0 )\nx\n" 20 4
-    ∷ refuses "boards 2\n0 : 7 ( 1 )\n1 : 7 ( 1 1 1 1 1 1 1 1 1 )\n" 3 0
-    ∷ refuses "boards 2\n0 : 7 ( 1 )\n1 : 7 ( 0 0 )\n0 : 8 ( 2 )\n" 4 0
+    ∷ refuses "boards 2\n0 : 7 ( 1 )\n1 : 7 ( 1 1 1 1 1 1 1 1 1 )\n" 3 12
+    ∷ refuses "boards 2\n0 : 7 ( 1 )\n1 : 7 ( 0 0 )\n0 : 8 ( 2 )\n" 4 18
     -- then 19
     ∷ cramped "boards 1" 5
     ∷ cramped "boards 1" 0
@@ -136,12 +136,12 @@ cases =
     ∷ writes (2 ∷ 2 ∷ 0 ∷ 6 ∷ 22 ∷ 22 ∷ 0 ∷ 1 ∷ 5 ∷ 4 ∷ 5 ∷ 0 ∷ 1 ∷ 3 ∷ 0 ∷ 1 ∷ 5 ∷ 4 ∷ 0 ∷ 5 ∷ 1 ∷ 3 ∷ []) "boards 2\n0 same and above or side 1\n0 same or above and side 1\n"
     ∷ writes (2 ∷ 4 ∷ 0 ∷ 6 ∷ 35 ∷ 35 ∷ 0 ∷ 1 ∷ 4 ∷ 6 ∷ 4 ∷ 0 ∷ 1 ∷ 0 ∷ 1 ∷ 4 ∷ 7 ∷ 5 ∷ 0 ∷ 1 ∷ 0 ∷ 1 ∷ 4 ∷ 6 ∷ 7 ∷ 6 ∷ 1 ∷ 0 ∷ 1 ∷ 5 ∷ 4 ∷ 6 ∷ 0 ∷ 7 ∷ 1 ∷ []) "boards 2\n0 not ( same or above ) 1\n0 inv ( same and above ) 1\n0 not inv not above 1\n0 not same or inv above 1\n"
     -- the writer's refusals: 1 to 5, then 11, then 19
-    ∷ unwritten (2 ∷ 0 ∷ 0 ∷ 6 ∷ 6 ∷ []) 1
-    ∷ unwritten (2 ∷ 0 ∷ 0 ∷ 6 ∷ 6 ∷ 7 ∷ []) 2
-    ∷ unwritten (2 ∷ 1 ∷ 0 ∷ 6 ∷ 8 ∷ 8 ∷ 0 ∷ 1 ∷ []) 3
-    ∷ unwritten (2 ∷ 1 ∷ 0 ∷ 6 ∷ 10 ∷ 10 ∷ 0 ∷ 2 ∷ 1 ∷ 0 ∷ []) 4
-    ∷ unwritten (2 ∷ 1 ∷ 0 ∷ 6 ∷ 10 ∷ 10 ∷ 0 ∷ 1 ∷ 1 ∷ 8 ∷ []) 5
-    ∷ unwritten (2 ∷ 0 ∷ 2 ∷ 6 ∷ 6 ∷ 15 ∷ 0 ∷ 7 ∷ 1 ∷ 1 ∷ 1 ∷ 7 ∷ 2 ∷ 0 ∷ 0 ∷ []) 11
+    ∷ unwritten (2 ∷ 0 ∷ 0 ∷ 6 ∷ 6 ∷ []) 1 5
+    ∷ unwritten (2 ∷ 0 ∷ 0 ∷ 6 ∷ 6 ∷ 7 ∷ []) 2 5
+    ∷ unwritten (2 ∷ 1 ∷ 0 ∷ 6 ∷ 8 ∷ 8 ∷ 0 ∷ 1 ∷ []) 3 8
+    ∷ unwritten (2 ∷ 1 ∷ 0 ∷ 6 ∷ 10 ∷ 10 ∷ 0 ∷ 2 ∷ 1 ∷ 0 ∷ []) 4 7
+    ∷ unwritten (2 ∷ 1 ∷ 0 ∷ 6 ∷ 10 ∷ 10 ∷ 0 ∷ 1 ∷ 1 ∷ 8 ∷ []) 5 9
+    ∷ unwritten (2 ∷ 0 ∷ 2 ∷ 6 ∷ 6 ∷ 15 ∷ 0 ∷ 7 ∷ 1 ∷ 1 ∷ 1 ∷ 7 ∷ 2 ∷ 0 ∷ 0 ∷ []) 11 12
     ∷ tight (1 ∷ 0 ∷ 0 ∷ 6 ∷ 6 ∷ 6 ∷ []) 8
     ∷ tight (1 ∷ 0 ∷ 0 ∷ 6 ∷ 6 ∷ 6 ∷ []) 0
     ∷ []

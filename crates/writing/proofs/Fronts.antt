@@ -6,14 +6,16 @@ use native.Mathlib.Omega.{arith}
 use lib.ListN.{length, take, drop, replicate}
 use lib.Seq.{sets-eq, take-at}
 use Rattle.rules.specs.Calls.{reading}
+use Rattle.answers.specs.declared.Answer.{Answer}
+use Rattle.answers.specs.Answers.{outcome}
+use Rattle.answers.proofs.Told.{told-good}
 use Rattle.typed.specs.Writing.{textOf}
 use Rattle.puts.proofs.Putting.{put-length}
 use Rattle.sheet_texts.specs.Sheets.{Good, mostText, PutsSheet}
-use Rattle.reading.proofs.Handing.{read-good}
 
 -- words that are not refused are those of a good description
-pub reads-good : (ws : List ℕ) → reading ws ≡ 0 → Good ws
-reads-good ws h = read-good ws h (λ s e. record { sheet = s; reads = e })
+pub reads-good : (ws : List ℕ) {a : Answer} → outcome a tt ≡ reading ws → a .number ≡ 0 → Good ws
+reads-good ws answers h = let (s, e) = told-good ws answers h in record { sheet = s; reads = e }
 
 -- the room that a text is made in has space for the longest
 pub room-enough : {t : List ℕ} → t ≡ replicate mostText 0 → mostText ≤ length t

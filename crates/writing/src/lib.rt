@@ -34,7 +34,7 @@ pub fn to_text(words: &[u16], room: &mut [u8]) -> Answer
 {
     let read = solver::read(words);
     if read.number != 0 {
-        return refuse(read.number, 0);
+        return read;
     }
     if room.len() < MOST_TEXT {
         return write_apart(words, room);

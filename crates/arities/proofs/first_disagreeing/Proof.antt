@@ -1,6 +1,6 @@
 -- `first_disagreeing` meets its contract: the lines passed are of one arity, until the first that disagrees with one of them is found. The measure is
 -- the lines left. Assumes nothing.
-use mathlib.Core.Path.{sym, subst}
+use mathlib.Core.Path.{sym, subst₂}
 use mathlib.Core.Logic.{⊎-elim}
 use Prim.Native.Nat.{ℕ, _+_, _-_}
 use native.Mathlib.Omega.{arith}
@@ -9,10 +9,10 @@ use Rattle.arities.proofs.first_disagreeing.Statement.{statement}
 use Rattle.arities.proofs.first_disagreeing.Tie as tie
 
 abbrev Inv-loop : tie.InvT-loop
-Inv-loop count words first₀ at₀ passed₀ first at passed = Sought count words first at passed
+Inv-loop count words place₀ first₀ at₀ passed₀ place first at passed = Sought count words place first at passed
 
 abbrev μ-loop : tie.MeasureT-loop
-μ-loop count words first₀ at₀ passed₀ first at passed = first - passed
+μ-loop count words place₀ first₀ at₀ passed₀ place first at passed = first - passed
 
 loop-holds : tie.Need-loop-holds Inv-loop μ-loop
 loop-holds c = sought-start (c .before .args .count) (c .before .args .words .now)
@@ -32,7 +32,7 @@ add-passed c =
     omega (arith, sought-few (test .before .loop .inv) (test .loop-test .taken) (test .before .before .before .pre))
 
 loop-less : tie.Need-loop-less Inv-loop μ-loop
-loop-less c = ⊎-elim (λ w. omega (arith, w .1)) (λ w. omega (arith, w .1)) (c .if1 .came)
+loop-less c = ⊎-elim (λ w. omega (arith, w .2)) (λ w. omega (arith, w .2)) (c .if1 .came)
 
 loop-again : tie.Need-loop-again Inv-loop μ-loop
 loop-again c =
@@ -40,11 +40,11 @@ loop-again c =
     let test = met .before in
     let start = test .before .before .before in
     let on = Sought (start .args .count) (start .args .words .now) in
-    let next : ℕ → Type 0 = λ f. on f (met .kind-at .result .end) (test .before .loop .passed + 1) in
+    let next : ℕ → ℕ → Type 0 = λ p f. on p f (met .kind-at .result .end) (test .before .loop .passed + 1) in
     let tests = c .before .disagrees-before .ensures in
     ⊎-elim
-    (λ w. subst next (sym (w .1)) (sought-found (test .before .loop .inv) (test .loop-test .taken) (met .kind-at .ensures) tests (w .0 .taken)))
-    (λ w. subst next (sym (w .1)) (sought-next (test .before .loop .inv) (test .loop-test .taken) (met .kind-at .ensures) tests (w .0 .left)))
+    (λ w. subst₂ next (sym (w .1)) (sym (w .2)) (sought-found (test .before .loop .inv) (test .loop-test .taken) (met .kind-at .ensures) tests (w .0 .taken)))
+    (λ w. subst₂ next (sym (w .1)) (sym (w .2)) (sought-next (test .before .loop .inv) (test .loop-test .taken) (met .kind-at .ensures) tests (w .0 .left)))
     (c .if1 .came)
 
 returns : tie.Need-returns Inv-loop μ-loop

@@ -1,6 +1,6 @@
 -- The proof of the cycle of calls {evaluate}: it calls itself on the words left, whose number is the measure. Assumes nothing.
 use mathlib.Core.Bool.{true, false}
-use Prim.Native.Nat.{ℕ, _+_, _-_, _/_, _%_, _^_, _<_}
+use Prim.Native.Nat.{ℕ, _+_, _-_, _/_, _%_, _^_, _≤_, _<_}
 use native.Mathlib.Nat.{pos-of-ne-zero, le-of-lt}
 use native.Mathlib.Omega.{arith}
 use borrow.Author.Needs.{needs}
@@ -12,7 +12,7 @@ use Rattle.rules.specs.Relations.{setLimit}
 use Rattle.rules.specs.Expressions.{codes, code}
 use Rattle.rules.proofs.Parts.{tail, tail-length}
 use Rattle.expressions.specs.declared.Expression.{Expression}
-use Rattle.expressions.specs.declared.Expression.the-variants.{Set, Malformed}
+use Rattle.expressions.specs.declared.Expression.the-variants.{Set}
 use Rattle.expressions.specs.Codes.{operands}
 use borrow.Fn.Kinds.{In}
 use borrow.Fn.PlainCycle.{Measures, is, falls, and}
@@ -110,6 +110,9 @@ module _ (t : ℕ) (c : AtCode t) where
 takes-some : (t : ℕ) (c : AtOperator t) → operands (code (word t (c .before))) ≡ 0 → ⊥
 takes-some t c e = let z : ⊥ = omega (arith, takes-marked t (c .before) (not-false _ (c .if3 .left))) in z
 
+takes-few : (t : ℕ) (c : AtOperator t) → operands (code (word t (c .before))) ≤ 2
+takes-few t c = omega (arith, takes-marked t (c .before) (not-false _ (c .if3 .left)))
+
 module _ (t : ℕ) (c : AtFirst t) where
   abbrev operator : AtOperator t
   operator = c .before .before .before .before .before
@@ -122,12 +125,12 @@ module _ (t : ℕ) (c : AtFirst t) where
 
   -- the number of words after the first operand
   abbrev left : ℕ
-  left = c .before .x .given .0 .1 .0
+  left = c .before .first .given .0 .1 .0
 
-  first : evaluation.Finds (drop 1 all) (Set (c .before .x .given .0 .0) left)
-  first = lent 1 all _ (sym (c .before .x .given .1) ∙ c .before .before .before .evaluate .ensures)
+  first : evaluation.Finds (drop 1 all) (Set (c .before .first .given .0 .0) left)
+  first = lent 1 all _ (sym (c .before .first .given .1) ∙ c .before .before .before .evaluate .ensures)
 
-  first-small : c .before .x .given .0 .0 < setLimit
+  first-small : c .before .first .given .0 .0 < setLimit
   first-small = evaluation.operand _ _ _ first .small
 
   -- the second operand starts within the words, and there are fewer from there on
@@ -154,10 +157,10 @@ module _ (t : ℕ) (c : AtSecond t) where
   abbrev second-start : ℕ
   second-start = length (all t (before-second .before .before)) - left t (before-second .before .before)
 
-  second : evaluation.Finds (drop second-start (all t (before-second .before .before))) (Set (c .before .y .given .0 .0) (c .before .y .given .0 .1 .0))
-  second = lent second-start (all t (before-second .before .before)) _ (sym (c .before .y .given .1) ∙ c .before .before .before .evaluate2 .ensures)
+  second : evaluation.Finds (drop second-start (all t (before-second .before .before))) (Set (c .before .last .given .0 .0) (c .before .last .given .0 .1 .0))
+  second = lent second-start (all t (before-second .before .before)) _ (sym (c .before .last .given .1) ∙ c .before .before .before .evaluate2 .ensures)
 
-  second-small : c .before .y .given .0 .0 < setLimit
+  second-small : c .before .last .given .0 .0 < setLimit
   second-small = evaluation.operand _ _ _ second .small
 
 evaluate-returns : (t : ℕ) → evaluate-lts.Need-returns (calls t) (evaluate-at t) evaluate.Post
@@ -180,8 +183,8 @@ evaluate-among-requires t c = λ _. omega (arith, c .if2 .left)
 evaluate-set-of-requires : (t : ℕ) → evaluate-lts.Need-set-of-requires (calls t) (evaluate-at t) evaluate.Post
 evaluate-set-of-requires t c = λ _. (listed t (c .before), takes-none t (c .before) (not-true _ (c .if3 .taken)))
 
-evaluate-sub-t15 : (t : ℕ) → evaluate-lts.Need-sub-t15 (calls t) (evaluate-at t) evaluate.Post
-evaluate-sub-t15 t c = pos-of-ne-zero (some t (c .before .before .before .before))
+evaluate-sub-t18 : (t : ℕ) → evaluate-lts.Need-sub-t18 (calls t) (evaluate-at t) evaluate.Post
+evaluate-sub-t18 t c = pos-of-ne-zero (some t (c .before .before .before .before))
 
 evaluate-returns-3 : (t : ℕ) → evaluate-lts.Need-returns-3 (calls t) (evaluate-at t) evaluate.Post
 evaluate-returns-3 t c =
@@ -204,8 +207,8 @@ evaluate-evaluate-requires t c =
     let l = tail-length 1 (start .args .words .now) in
     λ _. (omega (arith, start .pre .0, pos-of-ne-zero (some t head)), omega (arith, start .pre .1))
 
-evaluate-enum-known-x : (t : ℕ) → evaluate-lts.Need-enum-known-x (calls t) (evaluate-at t) evaluate.Post
-evaluate-enum-known-x t c = search needs
+evaluate-enum-known-first : (t : ℕ) → evaluate-lts.Need-enum-known-first (calls t) (evaluate-at t) evaluate.Post
+evaluate-enum-known-first t c = search needs
 
 evaluate-enum-told : (t : ℕ) → evaluate-lts.Need-enum-told (calls t) (evaluate-at t) evaluate.Post
 evaluate-enum-told t c = search needs
@@ -214,8 +217,9 @@ evaluate-returns-4 : (t : ℕ) → evaluate-lts.Need-returns-4 (calls t) (evalua
 evaluate-returns-4 t c =
     let operator = c .before .before .before .before in
     let head = operator .before .before .before in
-    evaluation.finds-no-first (words t head) (some t head) _ (front t head) (takes-some t operator)
-    (lent 1 (words t head) Malformed (sym (c .enum-told .given .1) ∙ c .before .before .evaluate .ensures))
+    c .enum-told .given .1
+    ∙ evaluation.finds-no-first (words t head) (some t head) _ (front t head) (takes-some t operator) (takes-few t operator) _
+    (lent 1 (words t head) _ (sym (c .enum-told .given .1) ∙ c .before .before .evaluate .ensures))
 
 evaluate-among-requires-2 : (t : ℕ) → evaluate-lts.Need-among-requires-2 (calls t) (evaluate-at t) evaluate.Post
 evaluate-among-requires-2 t c = λ _. omega (arith, before-first t c .before .if2 .left)
@@ -254,8 +258,8 @@ evaluate-evaluate-requires-2 t c =
     let l = tail-length (length (start .args .words .now) - left t at) (start .args .words .now) in
     λ _. (omega (arith, start .pre .0, second-within t at), omega (arith, start .pre .1))
 
-evaluate-enum-known-y : (t : ℕ) → evaluate-lts.Need-enum-known-y (calls t) (evaluate-at t) evaluate.Post
-evaluate-enum-known-y t c = search needs
+evaluate-enum-known-last : (t : ℕ) → evaluate-lts.Need-enum-known-last (calls t) (evaluate-at t) evaluate.Post
+evaluate-enum-known-last t c = search needs
 
 evaluate-enum-told-2 : (t : ℕ) → evaluate-lts.Need-enum-told-2 (calls t) (evaluate-at t) evaluate.Post
 evaluate-enum-told-2 t c = search needs
@@ -265,8 +269,9 @@ evaluate-returns-6 t c =
     let last = c .before .before .before .before in
     let at = last .before .before in
     let head = before-first t at .before .before in
-    evaluation.finds-no-second (words t head) (some t head) _ _ (first t at) _ (front t head ∙ is-two _ (takes-two t (last .before) (last .if4 .left)))
-    (lent (length (words t head) - left t at) (words t head) Malformed (sym (c .enum-told2 .given .1) ∙ c .before .before .evaluate2 .ensures))
+    c .enum-told2 .given .1
+    ∙ evaluation.finds-no-second (words t head) (some t head) _ _ (first t at) _ (front t head ∙ is-two _ (takes-two t (last .before) (last .if4 .left))) _
+    (lent (length (words t head) - left t at) (words t head) _ (sym (c .enum-told2 .given .1) ∙ c .before .before .evaluate2 .ensures))
 
 evaluate-apply-two-requires : (t : ℕ) → evaluate-lts.Need-apply-two-requires (calls t) (evaluate-at t) evaluate.Post
 evaluate-apply-two-requires t c =
@@ -291,13 +296,13 @@ pub +evaluate-spec : {M : Type 1} → statement M
     (evaluate-returns-2 t)
     (evaluate-among-requires t)
     (evaluate-set-of-requires t)
-    (evaluate-sub-t15 t)
+    (evaluate-sub-t18 t)
     (evaluate-returns-3 t)
     (evaluate-sub-evaluate t)
     (evaluate-part-evaluate-start t)
     (evaluate-part-evaluate-end t)
     (evaluate-evaluate-requires t)
-    (evaluate-enum-known-x t)
+    (evaluate-enum-known-first t)
     (evaluate-enum-told t)
     (evaluate-returns-4 t)
     (evaluate-among-requires-2 t)
@@ -309,7 +314,7 @@ pub +evaluate-spec : {M : Type 1} → statement M
     (evaluate-part-evaluate-start-2 t)
     (evaluate-part-evaluate-end-2 t)
     (evaluate-evaluate-requires-2 t)
-    (evaluate-enum-known-y t)
+    (evaluate-enum-known-last t)
     (evaluate-enum-told-2 t)
     (evaluate-returns-6 t)
     (evaluate-apply-two-requires t)

@@ -1,11 +1,13 @@
 -- `from_text` meets its contract: what was gathered is joined, read and handed over. Assumes nothing.
 use mathlib.Core.Path.{_≡_, sym, ap, _∙_}
+use mathlib.Core.Logic.{⊎-elim}
 use mathlib.Core.List.{List}
 use Prim.Native.Nat.{ℕ, _≤_}
 use native.Mathlib.Omega.{arith}
 use borrow.Author.Needs.{needs}
 use lib.ListN.{length, take}
 use lib.Seq.{length-take-le}
+use Rattle.rules.proofs.Tests.{tested}
 use Rattle.answers.specs.declared.Answer.{Answer}
 use Rattle.answers.specs.Answers.{outcome}
 use Rattle.rules.specs.Descriptions.{mostLines, mostKinds, mostWords, read}
@@ -14,16 +16,16 @@ use Rattle.typed.specs.Calls.{inRoom, fromText}
 use Rattle.text_lines.specs.declared.Gathered.{Gathered}
 use Rattle.text_lines.specs.Gatherings.{Parts, parts, kindsRoom}
 use Rattle.reading.specs.Joined.{Joins}
-use Rattle.reading.proofs.Making.{read-parts, from-parts, joins, total-few, joined-read, many-relations, many-kinds, Parted, stopped-at, parted}
+use Rattle.reading.proofs.Making.{read-parts, from-parts, joins, total-few, joined-read, no-boards, many-relations, many-kinds, Parted, stopped-at, parted}
 use Rattle.reading.proofs.from_text.Statement.{statement}
 use Rattle.reading.proofs.from_text.Tie as tie
 
--- where no line is malformed, where there are not too many lines, and where their words are joined
+-- where no line is malformed, where there are few boards and not too many lines, and where their words are joined
 abbrev AtGathered : Type 0
 AtGathered = tie.Else1
 
 abbrev AtFew : Type 0
-AtFew = tie.Else3
+AtFew = tie.Else5
 
 abbrev AtJoined : Type 0
 AtJoined = tie.After-join
@@ -54,13 +56,13 @@ module _ (c : AtGathered) where
 
 module _ (c : AtFew) where
   abbrev gathered : AtGathered
-  gathered = c .before .before .before .before
+  gathered = c .before .before .before .before .before .before .before
 
   few-relations : length (sorted gathered .rs) ≤ mostLines
-  few-relations = omega (arith, sorted gathered .whole .relations, c .before .before .if2 .left)
+  few-relations = omega (arith, sorted gathered .whole .relations, c .before .before .if4 .left)
 
   few-kinds : length (sorted gathered .ks) ≤ mostKinds
-  few-kinds = omega (arith, sorted gathered .whole .panels, c .if3 .left)
+  few-kinds = omega (arith, sorted gathered .whole .panels, c .if5 .left)
 
   words-room : length (relation-words gathered) ≡ mostWords
   words-room = gathered .before .before .before .words2 .given
@@ -123,25 +125,44 @@ returns c =
     ap (λ (a : Answer). outcome a room) (c .refuse .ensures) ∙ ap (λ (n : ℕ). refuse 20 n room) (c .before .line-count .ensures)
     ∙ stopped-at (start .args .text .now) _ _ (gather .result) (gather .ensures) (c .before .before .if1 .taken) room
 
+word-number-requires : tie.Need-word-number-requires
+word-number-requires c κs = search needs
+
 refuse-requires-2 : tie.Need-refuse-requires-2
 refuse-requires-2 c κs = search needs
 
 returns-2 : tie.Need-returns-2
 returns-2 c =
     let here : AtGathered = c .before .before .before in
+    let boards = sorted here .whole .boards in
     told here
     (ap (λ (a : Answer). outcome a (room here)) (c .refuse2 .ensures)
-    ∙ many-relations (sorted here .v) (sorted here .rs) (sorted here .ks) (room here) (omega (arith, sorted here .whole .relations, c .before .if2 .taken)))
+    ∙ no-boards (sorted here .v) (sorted here .rs) (sorted here .ks) (room here)
+    (λ low high. ⊎-elim (λ w. omega (tested, boards)) (λ w. omega (tested, boards)) (c .before .if2 .came)))
 
 refuse-requires-3 : tie.Need-refuse-requires-3
 refuse-requires-3 c κs = search needs
 
 returns-3 : tie.Need-returns-3
 returns-3 c =
-    let here : AtGathered = c .before .before .before .before .before in
+    let here : AtGathered = c .before .before .before .before .before .before in
+    let boards = sorted here .whole .boards in
     told here
     (ap (λ (a : Answer). outcome a (room here)) (c .refuse3 .ensures)
-    ∙ many-kinds (sorted here .v) (sorted here .rs) (sorted here .ks) (room here) (omega (arith, sorted here .whole .panels, c .before .if3 .taken)))
+    ∙ many-relations (sorted here .v) (sorted here .rs) (sorted here .ks) (room here) (omega (tested, boards)) (omega (tested, boards))
+    (omega (arith, sorted here .whole .relations, c .before .if4 .taken)))
+
+refuse-requires-4 : tie.Need-refuse-requires-4
+refuse-requires-4 c κs = search needs
+
+returns-4 : tie.Need-returns-4
+returns-4 c =
+    let here : AtGathered = c .before .before .before .before .before .before .before .before in
+    let boards = sorted here .whole .boards in
+    told here
+    (ap (λ (a : Answer). outcome a (room here)) (c .refuse4 .ensures)
+    ∙ many-kinds (sorted here .v) (sorted here .rs) (sorted here .ks) (room here) (omega (tested, boards)) (omega (tested, boards))
+    (omega (arith, sorted here .whole .relations, c .before .before .before .if4 .left)) (omega (arith, sorted here .whole .panels, c .before .if5 .taken)))
 
 slice-aggregate-join : tie.Need-slice-aggregate-join
 slice-aggregate-join c = search needs
@@ -164,8 +185,8 @@ hand-over-requires c κs = let t = total-fits (c .before .before .before) in ome
 same-length : tie.Need-same-length
 same-length c = search needs
 
-returns-4 : tie.Need-returns-4
-returns-4 c = c .before .before .hand-over .ensures ∙ joined-told (c .before .before .before .before .before .before)
+returns-5 : tie.Need-returns-5
+returns-5 c = c .before .before .hand-over .ensures ∙ joined-told (c .before .before .before .before .before .before)
 
 pub from-text-spec : {M : Type 1} → statement M
 from-text-spec =
@@ -179,10 +200,13 @@ from-text-spec =
     line-count-requires
     refuse-requires
     returns
+    word-number-requires
     refuse-requires-2
     returns-2
     refuse-requires-3
     returns-3
+    refuse-requires-4
+    returns-4
     slice-aggregate-join
     slice-aggregate-join-2
     join-requires
@@ -190,4 +214,4 @@ from-text-spec =
     slice-aggregate-hand-over
     hand-over-requires
     same-length
-    returns-4)
+    returns-5)

@@ -9,7 +9,7 @@ use Rattle.answers.specs.Answers.{outcome}
 use Rattle.rules.specs.Descriptions.{read}
 use Rattle.rules.specs.Calls.{Outcome, succeed, given}
 use Rattle.typed.specs.Calls.{inRoom}
-use Rattle.reading.proofs.Handing.{room-fits, room-small, passed-on, words-taken, given-read}
+use Rattle.reading.proofs.Handing.{room-fits, room-small, passed-on, words-taken}
 use Rattle.reading.proofs.hand_over.Statement.{statement}
 use Rattle.reading.proofs.hand_over.Tie as tie
 
@@ -22,31 +22,26 @@ module _ (c : tie.Else1) where
   room = c .before .before .before .before .before .args .room .now
 
   handed : {o : Outcome (List ℕ)} → o ≡ inRoom words room → o ≡ given (read words) room (λ s. inRoom words room)
-  handed p = p ∙ given-read words room (inRoom words room) (words-taken words (c .before .before .read .ensures) (c .if1 .left))
+  handed p = p ∙ words-taken words (c .before .before .read .ensures) room (inRoom words room) (c .if1 .left)
 
 -- ---- what the code leaves
 
 read-requires : tie.Need-read-requires
 read-requires c κs = search needs
 
-refuse-requires : tie.Need-refuse-requires
-refuse-requires c κs = search needs
-
 returns : tie.Need-returns
 returns c =
-    let start = c .before .before .before .before .before .before in
+    let start = c .before .before .before .before .before in
     let words = start .args .words .now in
-    let room = start .args .room .now in
-    ap (λ (a : Answer). outcome a room) (c .refuse .ensures)
-    ∙ passed-on words (c .before .before .before .read .ensures) room (λ s. inRoom words room) (c .before .if1 .taken)
+    passed-on words (c .before .before .read .ensures) (start .args .room .now) (λ s. inRoom words (start .args .room .now)) (c .if1 .taken)
 
-refuse-requires-2 : tie.Need-refuse-requires-2
-refuse-requires-2 c κs = search needs
+refuse-requires : tie.Need-refuse-requires
+refuse-requires c κs = search needs
 
 returns-2 : tie.Need-returns-2
 returns-2 c =
     let here = c .before .before in
-    handed here (ap (λ (a : Answer). outcome a (room here)) (c .refuse2 .ensures) ∙ room-small (words here) (room here) (c .before .if2 .taken))
+    handed here (ap (λ (a : Answer). outcome a (room here)) (c .refuse .ensures) ∙ room-small (words here) (room here) (c .before .if2 .taken))
 
 put-words-requires : tie.Need-put-words-requires
 put-words-requires c κs = search needs
@@ -73,9 +68,8 @@ hand-over-spec =
     tie.close
     (tie.spec
     read-requires
-    refuse-requires
     returns
-    refuse-requires-2
+    refuse-requires
     returns-2
     put-words-requires
     cast-succeed

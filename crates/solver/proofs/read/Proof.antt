@@ -1,8 +1,10 @@
--- `read` meets its contract: the number of what `description` finds. Assumes nothing.
+-- `read` meets its contract: the number and the place of what `description` finds. Assumes nothing.
 use mathlib.Core.Path.{sym, ap, _∙_}
-use Prim.Native.Nat.{ℕ}
-use Rattle.answers.specs.Answers.{answered}
+use Rattle.answers.specs.declared.Answer.{Answer}
+use Rattle.answers.specs.Answers.{outcome}
+use Rattle.sheet.proofs.Described.{undescribed-place}
 use Rattle.sheet.proofs.Wholes.{reading-good, reading-refused}
+use native.Mathlib.Omega.{arith}
 use borrow.Author.Needs.{needs}
 use Rattle.solver.proofs.read.Statement.{statement}
 use Rattle.solver.proofs.read.Tie as tie
@@ -19,16 +21,20 @@ succeed-requires c κs = search needs
 enum-known-refusal : tie.Need-enum-known-refusal
 enum-known-refusal c = search needs
 
-refuse-requires : tie.Need-refuse-requires
-refuse-requires c κs = search needs
+refuse-at-requires : tie.Need-refuse-at-requires
+refuse-at-requires c κs =
+    undescribed-place (c .before .before .before .before .before .args .words .now) _ (sym (c .before .refusal .given .1) ∙ c .before .before .before .description .ensures)
+    (omega (arith, c .before .before .before .before .shared-slice-known .given 5))
 
 returns : tie.Need-returns
 returns c =
-    c .succeed .ensures ∙ ap (λ (n : ℕ). answered n 0) (reading-good (c .before .before .before .before .before .args .words .now) _ (sym (c .before .enum-told .given .1) ∙ c .before .before .before .description .ensures))
+    ap (λ (a : Answer). outcome a tt) (c .succeed .ensures)
+    ∙ reading-good (c .before .before .before .before .before .args .words .now) _ (sym (c .before .enum-told .given .1) ∙ c .before .before .before .description .ensures)
 
 returns-2 : tie.Need-returns-2
 returns-2 c =
-    c .refuse .ensures ∙ ap (λ (n : ℕ). answered n 0) (reading-refused (c .before .before .before .before .before .before .args .words .now) _ (sym (c .before .before .refusal .given .1) ∙ c .before .before .before .before .description .ensures))
+    ap (λ (a : Answer). outcome a tt) (c .refuse-at .ensures)
+    ∙ reading-refused (c .before .before .before .before .before .before .args .words .now) _ (sym (c .before .before .refusal .given .1) ∙ c .before .before .before .before .description .ensures)
 
 pub read-spec : {M : Type 1} → statement M
 read-spec =
@@ -38,6 +44,6 @@ read-spec =
     enum-told
     succeed-requires
     enum-known-refusal
-    refuse-requires
+    refuse-at-requires
     returns
     returns-2)

@@ -6,7 +6,8 @@ use Rattle.rules.specs.Search.{Order}
 use Rattle.rules.specs.Calls.{searching}
 use Rattle.rules.proofs.Search.{plain-order}
 use Rattle.answers.specs.Answers.{outcome}
-use Rattle.opening.proofs.Admitting.{admit-admitted, search-told}
+use Rattle.opening.proofs.Admitting.{admit-admitted, admit-place, search-told}
+use native.Mathlib.Omega.{arith}
 use borrow.Author.Needs.{needs}
 use Rattle.solver.proofs.search.Statement.{statement}
 use Rattle.solver.proofs.search.Tie as tie
@@ -30,8 +31,10 @@ search-table-requires c κs =
 enum-known-r : tie.Need-enum-known-r
 enum-known-r c = search needs
 
-refuse-requires : tie.Need-refuse-requires
-refuse-requires c κs = search needs
+refuse-at-requires : tie.Need-refuse-at-requires
+refuse-at-requires c κs =
+    let start = c .before .before .before .before .before .before .before in
+    admit-place (start .args .words .now) (start .args .table .now) _ (sym (c .before .r .given .1) ∙ c .before .before .before .admit .ensures) (omega (arith, c .before .before .before .before .before .before .shared-slice-known .given 5))
 
 same-length : tie.Need-same-length
 same-length c = search needs
@@ -47,7 +50,7 @@ same-length-2 c = search needs
 
 returns-2 : tie.Need-returns-2
 returns-2 c =
-    search-told (c .before .before .before .before .before .before .before .before .args .words .now) (c .before .before .before .before .before .before .before .before .args .table .now) _ (sym (c .before .before .r .given .1) ∙ c .before .before .before .before .admit .ensures) (c .refuse .ensures) _ (c .before .before .before .before .before .before .before .before .args .budget)
+    search-told (c .before .before .before .before .before .before .before .before .args .words .now) (c .before .before .before .before .before .before .before .before .args .table .now) _ (sym (c .before .before .r .given .1) ∙ c .before .before .before .before .admit .ensures) (c .refuse-at .ensures) _ (c .before .before .before .before .before .before .before .before .args .budget)
 
 pub search-spec : {M : Type 1} → statement M
 search-spec =
@@ -59,7 +62,7 @@ search-spec =
     slice-aggregate-search-table
     search-table-requires
     enum-known-r
-    refuse-requires
+    refuse-at-requires
     same-length
     returns
     same-length-2

@@ -1,8 +1,6 @@
 -- `talung_read` meets its contract: it packs the answer of `read`. Assumes nothing.
-use mathlib.Core.Path.{ap, _∙_}
-use Rattle.answers.specs.declared.Answer.{Answer}
-use Rattle.talung.specs.Packed.{packed}
 use borrow.Author.Needs.{needs}
+use Rattle.talung.proofs.Packing.{packs}
 use Rattle.talung.proofs.talung_read.Statement.{statement}
 use Rattle.talung.proofs.talung_read.Tie as tie
 
@@ -13,7 +11,7 @@ pack-requires : tie.Need-pack-requires
 pack-requires c κs = search needs
 
 returns : tie.Need-returns
-returns c = c .pack .ensures ∙ ap (λ (a : Answer). packed (a .number) (a .count)) (c .before .read .ensures)
+returns c = packs _ _ _ _ (c .pack .ensures) (c .before .read .ensures)
 
 pub talung-read-spec : {M : Type 1} → statement M
 talung-read-spec = tie.close (tie.spec read-requires pack-requires returns)

@@ -7,10 +7,11 @@ use borrow.Author.Needs.{needs}
 use lib.ListN.{length}
 use Rattle.answers.specs.declared.Answer.{Answer}
 use Rattle.answers.specs.Answers.{outcome}
-use Rattle.rules.specs.Calls.{Outcome, succeed, reading}
+use Rattle.rules.specs.Calls.{Outcome, succeed}
 use Rattle.typed.specs.Writing.{textOf}
 use Rattle.typed.specs.Calls.{inRoom, toText}
-use Rattle.reading.proofs.Handing.{room-fits, passed-on, words-taken, given-read}
+use Rattle.sheet_texts.specs.Sheets.{Good}
+use Rattle.reading.proofs.Handing.{room-fits, passed-on, words-taken}
 use Rattle.writing.proofs.Fronts.{reads-good, front-size, front-few}
 use Rattle.writing.proofs.to_text.Statement.{statement}
 use Rattle.writing.proofs.to_text.Tie as tie
@@ -24,33 +25,28 @@ module _ (c : tie.Else1) where
   abbrev room : List ℕ
   room = c .before .before .before .before .before .args .room .now
 
-  taken : reading words ≡ 0
-  taken = words-taken words (c .before .before .read .ensures) (c .if1 .left)
+  good-words : Good words
+  good-words = reads-good words (c .before .before .read .ensures) (c .if1 .left)
 
   -- the text decides
   written : {o : Outcome (List ℕ)} → o ≡ inRoom (textOf words) room → o ≡ toText words room
   unfolding toText
-  written p = p ∙ given-read words room (inRoom (textOf words) room) taken
+  written p = p ∙ words-taken words (c .before .before .read .ensures) room (inRoom (textOf words) room) (c .if1 .left)
 
 -- ---- what the code leaves
 
 read-requires : tie.Need-read-requires
 read-requires c κs = search needs
 
-refuse-requires : tie.Need-refuse-requires
-refuse-requires c κs = search needs
-
 returns : tie.Need-returns
 unfolding toText
 returns c =
-    let start = c .before .before .before .before .before .before in
+    let start = c .before .before .before .before .before in
     let words = start .args .words .now in
-    let room = start .args .room .now in
-    ap (λ (a : Answer). outcome a room) (c .refuse .ensures)
-    ∙ passed-on words (c .before .before .before .read .ensures) room (λ s. inRoom (textOf words) room) (c .before .if1 .taken)
+    passed-on words (c .before .before .read .ensures) (start .args .room .now) (λ s. inRoom (textOf words) (start .args .room .now)) (c .if1 .taken)
 
 write-apart-requires : tie.Need-write-apart-requires
-write-apart-requires c κs = reads-good _ (taken (c .before .before))
+write-apart-requires c κs = good-words (c .before .before)
 
 same-length : tie.Need-same-length
 same-length c = search needs
@@ -59,7 +55,7 @@ returns-2 : tie.Need-returns-2
 returns-2 c = written (c .before .before .before .before .before) (c .before .before .write-apart .ensures)
 
 put-sheet-requires : tie.Need-put-sheet-requires
-put-sheet-requires c κs = (reads-good _ (taken (c .before .before)), c .before .if2 .left)
+put-sheet-requires c κs = (good-words (c .before .before), c .before .if2 .left)
 
 cast-succeed : tie.Need-cast-succeed
 cast-succeed c = omega (arith, front-few (c .before .before .put-sheet .ensures))
@@ -85,7 +81,6 @@ to-text-spec =
     tie.close
     (tie.spec
     read-requires
-    refuse-requires
     returns
     write-apart-requires
     same-length

@@ -1,10 +1,11 @@
 -- `agreed_section` meets its contract: the lines as `kind_section` finds them, and then the first that disagrees. Assumes nothing.
 use borrow.Author.Needs.{needs}
 use mathlib.Core.Path.{_≡_, sym, _∙_}
+use native.Mathlib.Omega.{arith}
 use Rattle.rules.specs.Descriptions.{kindLine, section}
 use Rattle.sheet.specs.declared.sections.SectionFound.the-variants.{Filled}
 use Rattle.sheet.specs.Found.{sectionFound}
-use Rattle.sheet.proofs.Agreed.{kinds-refused, kinds-first, kinds-disagree, kinds-agree}
+use Rattle.sheet.proofs.Agreed.{kinds-refused, kinds-first, kinds-room, kinds-disagree, kinds-agree}
 use Rattle.sheet.proofs.sections.agreed_section.Statement.{statement}
 use Rattle.sheet.proofs.sections.agreed_section.Tie as tie
 
@@ -31,6 +32,12 @@ first-disagreeing-requires c κs =
     let start = c .before .before .before .before in
     kinds-first (start .args .v) (start .args .count) (start .args .words .now) (filled c)
 
+add-t9 : tie.Need-add-t9
+add-t9 c =
+    let told = c .before .before in
+    let start = told .before .before .before .before in
+    omega (arith, kinds-room (start .args .v) (start .args .count) (start .args .words .now) (filled told) (c .before .first-disagreeing .ensures) (c .if1 .taken))
+
 returns-2 : tie.Need-returns-2
 returns-2 c =
     let told = c .before .before in
@@ -52,5 +59,6 @@ agreed-section-spec =
     returns
     enum-told
     first-disagreeing-requires
+    add-t9
     returns-2
     returns-3)

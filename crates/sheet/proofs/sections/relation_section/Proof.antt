@@ -1,13 +1,18 @@
 -- `relation_section` meets its contract: from each line on, the section comes to what it comes to from the start. The measure is the lines
 -- left. Assumes nothing.
 use borrow.Author.Needs.{needs}
-use mathlib.Core.Path.{sym, _∙_}
+use mathlib.Core.Path.{_≡_, sym, _∙_}
+use mathlib.Core.List.{List}
+use Prim.Native.Nat.{ℕ, _-_}
+use lib.ListN.{length, take, drop}
+use Rattle.answers.specs.Answers.{refusal}
 use native.Mathlib.Omega.{arith}
-use Rattle.rules.specs.Descriptions.{relationLine}
+use Rattle.rules.specs.Descriptions.{refused, relationLine}
+use Rattle.rules.proofs.PlacedLines.{placing-relation}
 use Rattle.rules.proofs.Lines.{relation-suffix}
 use Rattle.rules.proofs.Walks.{Walk, walk-start}
 use Rattle.lines.proofs.Fronts.{relation-line-out, relation-refused-out}
-use Rattle.sheet.proofs.Filled.{found-refused, found-next, found-end}
+use Rattle.sheet.proofs.Filled.{found-place, found-refused, found-next, found-end}
 use Rattle.sheet.proofs.sections.relation_section.Statement.{statement}
 use Rattle.sheet.proofs.sections.relation_section.Tie as tie
 
@@ -41,11 +46,24 @@ enum-known-rest c = search needs
 enum-known-r : tie.Need-enum-known-r Inv-loop μ-loop
 enum-known-r c = search needs
 
+-- the line that is refused
+module _ (c : tie.After-known-told2 Inv-loop μ-loop) where
+  abbrev test : tie.In-loop Inv-loop μ-loop
+  test = c .before .before .before .before .before
+
+  abbrev faulty : List ℕ
+  faulty = let words = test .before .before .before .args .words .now in take (length words - test .before .loop .at) (drop (test .before .loop .at) words)
+
+  refused-line : (n k : ℕ) × (relationLine (test .before .before .before .args .v) faulty ≡ refused n k) × (c .before .r .given .0 .0 ≡ refusal n k)
+  refused-line = relation-refused-out _ _ (sym (c .before .r .given .1) ∙ c .before .before .before .relation-line .ensures)
+
+later-requires : tie.Need-later-requires Inv-loop μ-loop
+later-requires c κs =
+    omega (arith, found-place (test c .before .loop .inv) (test c .loop-test .taken) (refused-line c) (placing-relation (test c .before .before .before .args .v) .within))
+
 returns : tie.Need-returns Inv-loop μ-loop
 returns c =
-    let test = c .before .before .before .before .before in
-    found-refused (test .before .loop .inv) (test .loop-test .taken)
-    (relation-refused-out _ _ (sym (c .before .r .given .1) ∙ c .before .before .before .relation-line .ensures))
+    found-refused (test (c .before) .before .loop .inv) (test (c .before) .loop-test .taken) (refused-line (c .before)) (c .later .ensures)
 
 sub-at : tie.Need-sub-at Inv-loop μ-loop
 sub-at c =
@@ -90,6 +108,7 @@ relation-section-spec =
     relation-line-requires
     enum-known-rest
     enum-known-r
+    later-requires
     returns
     sub-at
     sub-left

@@ -1,12 +1,13 @@
--- `boards_only` meets its contract: each word that was passed is a board. The measure is what is left of the words. Assumes nothing.
+-- `boards_before` meets its contract: each word that was passed is a board. The measure is what is left of the words. Assumes nothing.
 use borrow.Author.Needs.{needs}
+use mathlib.Core.Path.{_≡_, sym, _∙_}
 use Prim.Native.Nat.{ℕ, _-_, _≤_, _<_}
 use native.Mathlib.Omega.{arith}
 use borrow.Author.Count.{below-more}
 use lib.ListN.{length, getD}
-use Rattle.kind_lines.proofs.Fronts.{some-no-board, all-boards}
-use Rattle.kind_lines.proofs.boards_only.Statement.{statement}
-use Rattle.kind_lines.proofs.boards_only.Tie as tie
+use Rattle.rules.proofs.Lines.{boards-before, boards-all}
+use Rattle.kind_lines.proofs.boards_before.Statement.{statement}
+use Rattle.kind_lines.proofs.boards_before.Tie as tie
 
 abbrev Inv-loop : tie.InvT-loop
 Inv-loop v ways i₀ i = (i ≤ length ways) × ((k : ℕ) → k < i → getD ways k 0 < v)
@@ -29,7 +30,8 @@ word-number-requires c κs = search needs
 returns : tie.Need-returns Inv-loop μ-loop
 returns c =
     let start = c .before .before .before .before .before .before in
-    some-no-board (start .args .v) (start .args .ways .now) (c .before .before .before .before .loop .i) (omega arith) (omega arith)
+    let loop = c .before .before .before .before .loop in
+    sym (boards-before (start .args .v) (start .args .ways .now) (loop .i) (omega arith) (loop .inv .1) (omega arith))
 
 add-i : tie.Need-add-i Inv-loop μ-loop
 add-i c = omega arith
@@ -43,10 +45,11 @@ loop-again c = (omega arith, below-more _ _ (c .before .before .before .before .
 returns-2 : tie.Need-returns-2 Inv-loop μ-loop
 returns-2 c =
     let start = c .before .before .before in
-    all-boards (start .args .v) (start .args .ways .now) (λ k h. c .before .loop .inv .1 k (omega arith))
+    let all : c .before .loop .i ≡ length (start .args .ways .now) = omega arith in
+    all ∙ sym (boards-all (start .args .v) (start .args .ways .now) (λ k h. c .before .loop .inv .1 k (omega arith)))
 
-pub boards-only-spec : {M : Type 1} → statement M
-boards-only-spec =
+pub boards-before-spec : {M : Type 1} → statement M
+boards-before-spec =
     tie.close
     (tie.spec
     Inv-loop

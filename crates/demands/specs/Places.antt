@@ -16,13 +16,13 @@ use Rattle.demands.specs.Arities.{Disagree}
 abbrev pub Carries : List ℕ → Answer → Type 0
 Carries ws a = (n k : ℕ) → read ws ≡ refused n k → (a .number ≡ n) × (a .count ≡ k)
 
--- no header has a total that is compared, in lines and sections
+-- what is said of lines and sections is said of no total
 abbrev pub noTotal : List ℕ → ℕ
 noTotal ws = 0
 
--- the total that a header has
-abbrev pub total : List ℕ → ℕ
-total ws = getD ws 5 0
+-- the total that the header has
+abbrev pub headerTotal : List ℕ → ℕ
+headerTotal ws = getD ws 5 0
 
 -- Of a reader, a call that is lent a description and a table, and the two text calls:
 pub record SaysWhere (Reads : List ℕ → Answer → Type 0) (Calls : TableCall) (ReadsText WritesText : RoomCall) : Type 0 where
@@ -45,8 +45,8 @@ pub record Places : Type 1 where
   pub kind-line : (v : ℕ) → Placing noTotal (kindLine v)
   pub relation-section : (v count : ℕ) → Placing noTotal (section (relationLine v) count)
   pub kind-section : (v count : ℕ) → Placing noTotal (λ ws. next (section (kindLine v) count ws) agreed)
-  pub header : Placing total (λ ws. afterHeader ws (good ws))
-  pub description : Placing total read
+  pub header : Placing headerTotal (λ ws. afterHeader ws (good ws))
+  pub description : Placing headerTotal read
   -- Words are missing: in a header,
   pub header-short : (ws : List ℕ) → length ws < 6 → read ws ≡ refused 1 (length ws)
   -- in the section of a line, which has too few words for its first three, or for as many as the line says;

@@ -9,7 +9,7 @@ use borrow.Author.Tests.{eq-eqb}
 use lib.Dec.{T-not, leb, eqb, leb→le, nleb→lt, eqb→eq}
 use lib.ListN.{length, getD}
 use Rattle.rules.specs.Descriptions.{mostBoards, mostLines, mostKinds, Reading, good, refused, afterNumbers, afterOffsets, afterHeader}
-use Rattle.rules.specs.Places.{Alike, Placing}
+use Rattle.rules.specs.Places.{SameBefore, Placing}
 use Rattle.rules.proofs.Tests.{true-T}
 use Rattle.rules.proofs.Headers.{InRange, Placed, between-in, between-out, no-header, no-boards, no-lines, no-kinds, numbers-in, no-first, no-kinds-at, no-total}
 use Rattle.rules.proofs.PlacedReadings.{alike-word, OnlyAt, at-need, one-place, Within, Late, late}
@@ -56,7 +56,7 @@ header-within most ws r short last after =
     let five = last (i .six) in
     offsets-at (Within most) ws r (λ f. omega arith) (λ a f. omega arith) (λ a b c f. five) after)
 
-module _ (k : ℕ) (ws us : List ℕ) (a : Alike k ws us) where
+module _ (k : ℕ) (ws us : List ℕ) (a : SameBefore k ws us) where
   -- the numbers are in range by their words, and the offsets and the total are right by theirs
   pub range-alike : 3 ≤ k → InRange us → InRange ws
   range-alike h r =
@@ -85,7 +85,7 @@ module _ (k : ℕ) (ws us : List ℕ) (a : Alike k ws us) where
       }
 
 -- no test of us fails before the place at which ws is refused
-module _ {X : Type 0} (ws us : List ℕ) (r s : Reading X) (n k : ℕ) (a : Alike k ws us) where
+module _ {X : Type 0} (ws us : List ℕ) (r s : Reading X) (n k : ℕ) (a : SameBefore k ws us) where
   numbers-late : afterNumbers ws r ≡ refused n k → (InRange us → OnlyAt (Late n k) s) → OnlyAt (Late n k) (afterNumbers us s)
   numbers-late e =
       numbers-at (Late n k) us s (λ f h l. at (length us) (no-header ws r (omega arith) ∙ ap (refused 1) (sym many)) l)
@@ -123,7 +123,7 @@ module _ {X : Type 0} (ws us : List ℕ) (r s : Reading X) (n k : ℕ) (a : Alik
       at j h = one-place (afterOffsets ws r) n 2 k j (e h)
 
 -- of us it is what is read after the header that is refused before the place, if anything is
-pub header-late : {X : Type 0} (ws us : List ℕ) (r s : Reading X) (n k : ℕ) → Alike k ws us → afterHeader ws r ≡ refused n k → getD us 5 0 ≡ getD ws 5 0
+pub header-late : {X : Type 0} (ws us : List ℕ) (r s : Reading X) (n k : ℕ) → SameBefore k ws us → afterHeader ws r ≡ refused n k → getD us 5 0 ≡ getD ws 5 0
     → (InRange us → Placed us → OnlyAt (Late n k) s) → OnlyAt (Late n k) (afterHeader us s)
 header-late ws us r s n k a e t after =
     numbers-late ws us (afterOffsets ws r) (afterOffsets us s) n k a e (λ i.

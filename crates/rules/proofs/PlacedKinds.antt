@@ -9,7 +9,7 @@ use lib.Dec.{T-not, eqb}
 use lib.ListN.{length, take, drop, length-drop}
 use Rattle.rules.specs.Relations.{someOf}
 use Rattle.rules.specs.Descriptions.{KindLine, Reading, good, refused, Front, next, kindLine, section, disagrees, firstDisagreeing, kindWords, agreed}
-use Rattle.rules.specs.Places.{Alike, Placing}
+use Rattle.rules.specs.Places.{SameBefore, Placing}
 use Rattle.rules.proofs.Tests.{T-decide, T-true, T-false, T-differ}
 use Rattle.rules.proofs.Readings.{next-out}
 use Rattle.rules.proofs.Refusals.{Only, only-kinds}
@@ -40,7 +40,7 @@ module _ (v : ℕ) where
   kind-long ws f e = omega (arith, line-words v ws f e)
 
   -- one that has the panel of a good line is not refused before its number of ways
-  kind-second : (ws us : List ℕ) (f : Front KindLine) → kindLine v ws ≡ good f → Alike 2 ws us → (m j : ℕ) → kindLine v us ≡ refused m j → 2 ≤ j
+  kind-second : (ws us : List ℕ) (f : Front KindLine) → kindLine v ws ≡ good f → SameBefore 2 ws us → (m j : ℕ) → kindLine v us ≡ refused m j → 2 ≤ j
   kind-second ws us f e a m j d =
       let o = kind-out v ws f e .passed in
       subst (OnlyAt P) d
@@ -58,7 +58,7 @@ module _ (v : ℕ) where
 
   -- us has the words before the place of 11 in f and some lines after it
   module _ (count : ℕ) (earlier : List KindLine) (ws us : List ℕ) (f : Front KindLine) (d : kindLine v ws ≡ good f) (ls : List KindLine)
-      (a : Alike (place earlier (f .line ∷ ls)) ws us) where
+      (a : SameBefore (place earlier (f .line ∷ ls)) ws us) where
     past-here : someOf (disagrees (f .line)) earlier ≡ true → Past earlier (suc count) (place earlier (f .line ∷ ls)) us
     unfolding place
     past-here t =
@@ -71,7 +71,7 @@ module _ (v : ℕ) where
 
     past-onward : someOf (disagrees (f .line)) earlier ≡ false → firstDisagreeing earlier (f .line ∷ ls) < suc (length ls)
         → (let onward = earlier ++ (f .line ∷ []) in let rest = drop (length ws - length (f .rest)) us in
-        firstDisagreeing onward ls < length ls → Alike (place onward ls) (f .rest) rest → Past onward count (place onward ls) rest)
+        firstDisagreeing onward ls < length ls → SameBefore (place onward ls) (f .rest) rest → Past onward count (place onward ls) rest)
         → Past earlier (suc count) (place earlier (f .line ∷ ls)) us
     past-onward t h r =
         let u = length ws - length (f .rest) in
@@ -90,7 +90,7 @@ module _ (v : ℕ) where
 
   -- that is so before the place of 11, if us has the words before it
   arity-late : (count : ℕ) (earlier : List KindLine) (ws us : List ℕ) (ks : List KindLine) → section (kindLine v) count ws ≡ good ks
-      → firstDisagreeing earlier ks < length ks → Alike (place earlier ks) ws us → Past earlier count (place earlier ks) us
+      → firstDisagreeing earlier ks < length ks → SameBefore (place earlier ks) ws us → Past earlier count (place earlier ks) us
   unfolding section
   arity-late zero earlier ws us ks e h a = absurd (omega (arith, section-counted (kindLine v) zero ws ks e))
   arity-late (suc count) earlier ws us ks e h a =

@@ -10,7 +10,7 @@ use lib.ListN.{length, getD, take, drop, length-drop}
 use lib.Seq.{take-take, getD-take, length-take-le}
 use Rattle.rules.specs.Expressions.{expression, Begins, Longest}
 use Rattle.rules.specs.Descriptions.{mostExpressionWords, mostWays, Reading, good, refused, next, later, meaning, boardsBefore, boardsOnly, relationLine, kindLine}
-use Rattle.rules.specs.Places.{Alike, Placing}
+use Rattle.rules.specs.Places.{SameBefore, Placing}
 use Rattle.rules.proofs.Beginnings.{meaning-place}
 use Rattle.rules.proofs.Lines.{length-in, length-out, boards-before, before-boards, LengthFits, OnBoards, means, relation-no-length, relation-no-p, relation-no-q, WaysFit, kind-no-number, kind-no-panel, ways-length, kind-no-way}
 use Rattle.rules.proofs.PlacedReadings.{alike-after, alike-word, OnlyAt, at-need, one-place, Within, Late, late}
@@ -79,7 +79,7 @@ module _ (v : ℕ) (ws : List ℕ) (n k : ℕ) (e : relationLine v ws ≡ refuse
       P m j = 5 ≤ m → OnBoards v ws × (i : ℕ) × (means v ws ≡ refused m i) × (3 + i ≡ j)
 
   -- a test that us fails before the place is one that ws fails
-  relation-late : (us : List ℕ) → Alike k ws us → OnlyAt (Late n k) (relationLine v us)
+  relation-late : (us : List ℕ) → SameBefore k ws us → OnlyAt (Late n k) (relationLine v us)
   relation-late us a =
       relation-at (Late n k) v us (λ h l. omega (arith, relation-within, a .many))
       (λ three f h l. let w = alike-word a 2 l in at 3 2 (relation-no-length v ws (omega (arith, a .many)) (λ x y. f (omega arith) (omega arith))) l)
@@ -158,7 +158,7 @@ module _ (v : ℕ) (ws : List ℕ) (n k : ℕ) (e : kindLine v ws ≡ refused n 
       P m j = 4 ≤ m → WaysFit ws
 
   -- a test that us fails before the place is one that ws fails
-  kind-late : (us : List ℕ) → Alike k ws us → OnlyAt (Late n k) (kindLine v us)
+  kind-late : (us : List ℕ) → SameBefore k ws us → OnlyAt (Late n k) (kindLine v us)
   kind-late us a =
       kind-at (Late n k) v us (λ h l. omega (arith, kind-within, a .many))
       (λ three f h l. let w = alike-word a 2 l in at 3 2 (kind-no-number v ws (omega (arith, a .many)) (omega arith)) l)

@@ -10,7 +10,7 @@ use lib.Dec.{T}
 use lib.ListN.{getD, take, drop, length-take, length-drop}
 use lib.Seq.{take-nil, take-take, getD-take}
 use Rattle.rules.specs.Descriptions.{Reading, good, refused, need, next}
-use Rattle.rules.specs.Places.{Alike, NotBefore, Placing}
+use Rattle.rules.specs.Places.{SameBefore, NotBefore, Placing}
 
 -- ---- words that are alike before a place
 
@@ -20,17 +20,17 @@ drop-take zero j ws = ap (λ (m : ℕ). take m ws) (zero-add j)
 drop-take (suc n) j [] = ap (drop (suc n)) (take-nil (suc n + j)) ∙ sym (take-nil j)
 drop-take (suc n) j (w ∷ ws) = ap (λ (m : ℕ). drop (suc n) (take m (w ∷ ws))) (suc-add n j) ∙ drop-take n j ws
 
-module _ {k : ℕ} {ws us : List ℕ} (a : Alike k ws us) where
+module _ {k : ℕ} {ws us : List ℕ} (a : SameBefore k ws us) where
   -- either way round
-  pub alike-back : Alike k us ws
+  pub alike-back : SameBefore k us ws
   alike-back = record { many = sym (a .many); same = sym (a .same) }
 
   -- before an earlier place
-  pub alike-less : (j : ℕ) → j ≤ k → Alike j ws us
+  pub alike-less : (j : ℕ) → j ≤ k → SameBefore j ws us
   alike-less j h = record { many = a .many; same = sym (take-take j k us h) ∙ ap (take j) (a .same) ∙ take-take j k ws h }
 
   -- the words after the first n
-  pub alike-after : (n j : ℕ) → n + j ≡ k → Alike j (drop n ws) (drop n us)
+  pub alike-after : (n j : ℕ) → n + j ≡ k → SameBefore j (drop n ws) (drop n us)
   alike-after n j e =
       let same : take (n + j) us ≡ take (n + j) ws = rw e (a .same) in
       record {
@@ -39,7 +39,7 @@ module _ {k : ℕ} {ws us : List ℕ} (a : Alike k ws us) where
       }
 
   -- the first n words
-  pub alike-front : (n : ℕ) → k ≤ n → Alike k (take n ws) (take n us)
+  pub alike-front : (n : ℕ) → k ≤ n → SameBefore k (take n ws) (take n us)
   alike-front n h = record {
     many = length-take n us ∙ ap (min n) (a .many) ∙ sym (length-take n ws);
     same = take-take k n us h ∙ a .same ∙ sym (take-take k n ws h);
@@ -94,6 +94,6 @@ module _ {X : Type 0} (n k : ℕ) where
 
 -- what keeps its places is not refused before them
 pub placing-late : {X : Type 0} (reads : List ℕ → Reading X) → Placing (λ ws. 0) reads → (ws us : List ℕ) (n k m j : ℕ) → reads ws ≡ refused n k
-    → reads us ≡ refused m j → Alike k ws us → Late n k m j
+    → reads us ≡ refused m j → SameBefore k ws us → Late n k m j
 placing-late reads p ws us n k m j e d a h l =
     let z : m ≤ n → k ≤ j = subst (NotBefore n k) d (p .before ws us n k e a refl) in omega (arith, z h)

@@ -8,7 +8,7 @@ use lib.Dec.{T}
 use lib.ListN.{length, getD, take, drop, length-append, length-drop}
 use lib.Seq.{drop-drop}
 use Rattle.rules.specs.Descriptions.{RelationLine, KindLine, Reading, good, refused, Front, next, later, boardsOnly, relationLine, kindLine, section}
-use Rattle.rules.specs.Places.{Alike, Placing}
+use Rattle.rules.specs.Places.{SameBefore, Placing}
 use Rattle.rules.proofs.Tests.{clash}
 use Rattle.rules.proofs.Parts.{Suffix}
 use Rattle.rules.proofs.Readings.{section-first}
@@ -21,7 +21,7 @@ use Rattle.rules.proofs.PlacedLines.{placing-relation, placing-kind}
 module _ {X : Type 0} (line : List ℕ → Reading (Front X)) where
   -- the line f of ws is one of us, where us has its words
   abbrev pub Shared : List ℕ → List ℕ → Front X → Type 0
-  Shared ws us f = let n = length ws - length (f .rest) in Alike n ws us → line us ≡ good (record { line = f .line; rest = drop n us })
+  Shared ws us f = let n = length ws - length (f .rest) in SameBefore n ws us → line us ≡ good (record { line = f .line; rest = drop n us })
 
   -- what is left after a line ends the words, and the line is shared
   pub record Local : Type 0 where
@@ -36,7 +36,7 @@ module _ (ws us : List ℕ) (three : 3 ≤ length ws) (room : getD ws 2 0 ≤ le
   counted : 3 + getD ws 2 0 ≡ line-words
   counted = omega (arith, after-line (getD ws 2 0) ws)
 
-  module _ (a : Alike line-words ws us) where
+  module _ (a : SameBefore line-words ws us) where
     same-word : (i : ℕ) → i < 3 → getD us i 0 ≡ getD ws i 0
     same-word i h = alike-word a i (omega (arith, counted))
 
@@ -142,7 +142,7 @@ module _ {X : Type 0} (line : List ℕ → Reading (Front X)) (p : Placing (λ w
 
   -- by the first line: it is shared, or it is refused for both
   section-late : (count : ℕ) (ws us : List ℕ) (n k m j : ℕ) → section line count ws ≡ refused n k → section line count us ≡ refused m j
-      → Alike k ws us → Late n k m j
+      → SameBefore k ws us → Late n k m j
   unfolding section
   section-late zero [] us n k m j e d a h b = clash (cc)
   section-late zero (w ∷ ws) us n k m j e d a h b = let z : 0 ≡ k = cc in omega arith

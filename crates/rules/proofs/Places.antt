@@ -8,7 +8,7 @@ use native.Mathlib.Omega.{arith}
 use lib.ListN.{length, getD, take, drop, length-drop}
 use lib.Seq.{length-take-le}
 use Rattle.rules.specs.Descriptions.{RelationLine, KindLine, Sheet, Reading, good, refused, need, next, later, relationLine, kindLine, section, afterNumbers, afterOffsets, afterHeader, relationLines, kindLines, bothRead, meant, agreed, agreedSheet, read}
-use Rattle.rules.specs.Places.{Alike, Placing}
+use Rattle.rules.specs.Places.{SameBefore, Placing}
 use Rattle.rules.proofs.Tests.{clash}
 use Rattle.rules.proofs.Headers.{Placed, numbers-in, places-in}
 use Rattle.rules.proofs.PlacedReadings.{alike-less, alike-after, alike-front, alike-word, OnlyAt, Within, Late, late, placing-late}
@@ -79,7 +79,7 @@ module _ (ws : List ℕ) where
         omega (arith, placing-agreed (getD ws 0 0) (getD ws 2 0) .within (drop (getD ws 4 0) ws) n i e, length-drop (getD ws 4 0) ws, p .before, p .total))
 
 -- us has the header of ws, so its sections are read alike
-module _ (k : ℕ) (ws us : List ℕ) (a : Alike k ws us) (six : 6 ≤ k) where
+module _ (k : ℕ) (ws us : List ℕ) (a : SameBefore k ws us) (six : 6 ≤ k) where
   relations-alike : relationPart us ≡ section (relationLine (getD ws 0 0)) (getD ws 1 0) (take (getD ws 4 0 - 6) (drop 6 us))
   unfolding relationPart
   relations-alike = rw (alike-word a 0 (omega arith), alike-word a 1 (omega arith), alike-word a 4 (omega arith))
@@ -95,7 +95,7 @@ module _ (k : ℕ) (ws us : List ℕ) (a : Alike k ws us) (six : 6 ≤ k) where
 
 -- so us is not refused before ws in one section, nor in one before it
 module _ (ws us : List ℕ) where
-  relations-late : Placed ws → (n x m i : ℕ) → relationPart ws ≡ refused n x → relationPart us ≡ refused m i → Alike (6 + x) ws us → Late n (6 + x) m (6 + i)
+  relations-late : Placed ws → (n x m i : ℕ) → relationPart ws ≡ refused n x → relationPart us ≡ refused m i → SameBefore (6 + x) ws us → Late n (6 + x) m (6 + i)
   unfolding relationPart
   relations-late p n x m i e d a h l =
       let v = getD ws 0 0 in
@@ -104,7 +104,7 @@ module _ (ws us : List ℕ) where
       (sym (relations-alike (6 + x) ws us a (omega arith)) ∙ d)
       (alike-front (alike-after a 6 x refl) o (omega (arith, relations-within ws p n x e))) h (omega arith)
 
-  kinds-late : Placed ws → (n x m i : ℕ) → kindPart ws ≡ refused n x → kindPart us ≡ refused m i → Alike (getD ws 4 0 + x) ws us
+  kinds-late : Placed ws → (n x m i : ℕ) → kindPart ws ≡ refused n x → kindPart us ≡ refused m i → SameBefore (getD ws 4 0 + x) ws us
       → Late n (getD ws 4 0 + x) m (getD ws 4 0 + i)
   unfolding kindPart
   kinds-late p n x m i e d a h l =
@@ -113,7 +113,7 @@ module _ (ws us : List ℕ) where
       placing-late (agreedLines v (getD ws 2 0)) (placing-agreed v (getD ws 2 0)) (drop o ws) (drop o us) n x m i e
       (sym (kinds-alike (o + x) ws us a (omega (arith, p .after))) ∙ d) (alike-after a o x refl) h (omega arith)
 
-  body-late : (n k : ℕ) → Alike k ws us → Placed us → (6 ≤ k → Placed ws × (body ws ≡ refused n k)) → OnlyAt (Late n k) (body us)
+  body-late : (n k : ℕ) → SameBefore k ws us → Placed us → (6 ≤ k → Placed ws × (body ws ≡ refused n k)) → OnlyAt (Late n k) (body us)
   body-late n k a p f =
       body-at us (Late n k) (λ m i d h l.
       let (q, e) = f (omega arith) in
@@ -129,7 +129,7 @@ module _ (ws us : List ℕ) where
       (λ ls y o x g b. rw w (kinds-late q o x m i g d b))) a h l)
     where
       P : ℕ → ℕ → ℕ → ℕ → Type 0
-      P m j n k = Alike k ws us → Late n k m j
+      P m j n k = SameBefore k ws us → Late n k m j
 
 -- a place is at most most, if all words are where they are too few or as many as the header says, and if that is at least the header's last place
 module _ (ws : List ℕ) (most : ℕ) (short : length ws < 6 → length ws ≤ most) (last : 6 ≤ length ws → 5 ≤ most) (whole : Placed ws → length ws ≤ most) where

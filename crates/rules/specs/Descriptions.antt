@@ -99,7 +99,7 @@ relationLine v (p ∷ q ∷ n ∷ ws) =
     (next (later 3 (meaning n (expression (take n ws))))
     (λ x. good (record { line = record { p = p; q = q; allowed = x }; rest = drop n ws }))))))
 
--- how many boards stand before the first of these that is none; all of them are boards
+-- how many of these are boards, up to the first that is none; and whether all of them are
 unfoldable pub boardsBefore : ℕ → List ℕ → ℕ
 boardsBefore v [] = 0
 boardsBefore v (y ∷ ys) = elim (ltb y v) [ true ↦ suc (boardsBefore v ys) | false ↦ 0 ]

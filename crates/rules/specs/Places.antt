@@ -7,7 +7,7 @@ use lib.ListN.{length, take}
 use Rattle.rules.specs.Descriptions.{Reading, good, refused}
 
 -- the same words before the place k, and as many in all
-pub record Alike (k : ℕ) (ws us : List ℕ) : Type 0 where
+pub record SameBefore (k : ℕ) (ws us : List ℕ) : Type 0 where
   pub many : length us ≡ length ws
   pub same : take k us ≡ take k ws
 
@@ -20,4 +20,4 @@ NotBefore n k (refused m j) = m ≤ n → k ≤ j
 -- all that has one, this is said of words with the same total, which the kind offset is compared with.
 pub record Placing {X : Type 0} (total : List ℕ → ℕ) (reads : List ℕ → Reading X) : Type 0 where
   pub within : (ws : List ℕ) (n k : ℕ) → reads ws ≡ refused n k → k ≤ length ws
-  pub before : (ws us : List ℕ) (n k : ℕ) → reads ws ≡ refused n k → Alike k ws us → total us ≡ total ws → NotBefore n k (reads us)
+  pub before : (ws us : List ℕ) (n k : ℕ) → reads ws ≡ refused n k → SameBefore k ws us → total us ≡ total ws → NotBefore n k (reads us)

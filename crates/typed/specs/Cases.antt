@@ -123,6 +123,11 @@ cases =
     ∷ refuses "boards 2\n0 : 7 ( 1 )\n1 : 7 ( 0 0 )\nx\n" 20 4
     ∷ refuses "boards 2\n0 : 7 ( 1 )\n1 : 7 ( 1 1 1 1 1 1 1 1 1 )\n" 3 12
     ∷ refuses "boards 2\n0 : 7 ( 1 )\n1 : 7 ( 0 0 )\n0 : 8 ( 2 )\n" 4 18
+    -- a refusal is told at its place in the words made (request 3): those of relation lines come first, wherever they are typed; boards before the lines
+    ∷ refuses "boards 2\n0 : 7 ( 2 )\n0 above 1\n" 4 13
+    ∷ refuses "boards 2\n0 : 7 ( 1 1 )\n2 : 8 ( )\n0 above 1\n0 side 1\n" 4 19
+    ∷ refuses "boards 2\n0 : 7 ( 1 )\n0 above 1\n0 not not not not not not not not not not not not not not not same 1\n" 3 12
+    ∷ refuses "boards 17\n0 : 1 ( )\n0 : 1 ( )\n0 : 1 ( )\n0 : 1 ( )\n0 : 1 ( )\n0 : 1 ( )\n0 : 1 ( )\n0 : 1 ( )\n0 : 1 ( )\n0 : 1 ( )\n0 : 1 ( )\n0 : 1 ( )\n0 : 1 ( )\n0 : 1 ( )\n0 : 1 ( )\n0 : 1 ( )\n0 : 1 ( )\n" 1 0
     -- then 19
     ∷ cramped "boards 1" 5
     ∷ cramped "boards 1" 0

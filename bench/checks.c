@@ -4,6 +4,14 @@
 #include <string.h>
 
 #include "checks.h"
+#include "sites.h"
+
+/* The most words of a short description, the largest word, and room for a short text that is spoilt. */
+enum {
+    SHORT = 64,
+    LARGEST = 65535,
+    MOST_SPOILT = (MOST_LINES + 2) * MOST_TABLE
+};
 
 /* What each sheet of the group at hand is answered, and what is then left of what was lent with it. */
 static uint64_t answers[MOST_SHEETS];
@@ -62,18 +70,54 @@ void expect_kept(const struct group *g, size_t i, uint64_t answer, const void *l
         fail(g, i, "answered otherwise than before");
 }
 
-/* Ends the program unless the answer has this number; and, if that is a refusal, no count but of tries, and what was lent is as it came. */
+/* Ends the program unless the answer has this number; and, if that is a refusal, no count but of tries or the sheet's place, and what was lent is as it came. */
 static void expect(const struct group *g, size_t i, uint64_t answer, unsigned number, const void *lent)
 {
     uint16_t as_it_came[MOST_ROOM / 2];
     int counts = number == TALUNG_OK || number == TALUNG_NOWHERE || number == TALUNG_RAN_OUT;
-    if (talung_number(answer) != number || (!counts && talung_count(answer))) {
-        printf("answered number %u count %u, made for number %u\n", talung_number(answer), talung_count(answer), number);
+    unsigned place = g->sheets[i].place;
+    if (talung_number(answer) != number || (!counts && talung_count(answer) != place)) {
+        printf("answered number %u count %u, made for number %u place %u\n", talung_number(answer), talung_count(answer), number, place);
         fail(g, i, "not answered as it should be");
     }
     lend(g, &g->sheets[i], as_it_came);
     if (number && memcmp(lent, as_it_came, g->lent))
         fail(g, i, "refused, but what was lent is not as it came");
+}
+
+/* ---- spoilt descriptions */
+
+/* Has both do the group's task with a description that has another word at this place. */
+static void compare_word(const struct group *g, size_t i, struct sheet *s, size_t place, uint16_t word)
+{
+    uint16_t lent[MOST_ROOM / 2];
+    uint16_t was = s->words[place];
+    s->words[place] = word;
+    answer_sheet(g, i, s, lent);
+    s->words[place] = was;
+}
+
+/* Has both do it, if the description is short or the first of its group, with each of its words in turn one larger, one smaller and the largest that there is; with
+   each of them as the one where the kind lines begin; and cut before each of them, with the total that it has and with one that is right. A search makes no try. */
+static void compare_spoilt(const struct group *g, size_t i)
+{
+    struct sheet s = g->sheets[i];
+    size_t n = s.n;
+    if (n > SHORT && i > 0)
+        return;
+    s.budget = 0;
+    if (g->task == WRITE)
+        s.m = g->lent;
+    for (size_t k = 0; k < n; k++) {
+        compare_word(g, i, &s, k, s.words[k] + 1);
+        compare_word(g, i, &s, k, s.words[k] - 1);
+        compare_word(g, i, &s, k, LARGEST);
+        compare_word(g, i, &s, 4, k);
+    }
+    for (s.n = 0; s.n < n; s.n++) {
+        compare_word(g, i, &s, 5, s.words[5]);
+        compare_word(g, i, &s, 5, s.n);
+    }
 }
 
 /* ---- tables */
@@ -116,7 +160,21 @@ static uint64_t search(const struct group *g, size_t i, uint32_t budget, uint8_t
     return answer;
 }
 
-/* Checks a sheet that is closed; and that the search refuses what closing refuses, a contradiction with no try, and else finds an arrangement. */
+/* Checks that the writer refuses a description that closing refuses, at the same place. */
+static void check_written(const struct group *g, size_t i)
+{
+    static struct group written = {.task = WRITE, .lent = MOST_ROOM};
+    struct sheet *s = &written.sheets[i];
+    uint16_t room[MOST_ROOM / 2];
+    written.name = g->name;
+    *s = g->sheets[i];
+    s->m = TALUNG_MOST_TEXT;
+    if (s->number == TALUNG_NO_TABLE || s->number == TALUNG_CONTRADICTORY)
+        s->number = TALUNG_OK;
+    expect(&written, i, answer_sheet(&written, i, s, room), s->number, room);
+}
+
+/* Checks a sheet that is closed; that the search refuses what closing refuses, a contradiction with no try, and else finds an arrangement; and the writer. */
 static void check_closed(const struct group *g, size_t i)
 {
     unsigned number = g->sheets[i].number;
@@ -128,6 +186,8 @@ static void check_closed(const struct group *g, size_t i)
         fail(g, i, "tries in a contradictory table");
     if (number == 0)
         expect_arrangement(g, i, table);
+    check_written(g, i);
+    compare_spoilt(g, i);
 }
 
 /* Checks that a sheet which was given this answer runs out of another budget exactly if it takes more tries. */
@@ -152,6 +212,7 @@ static void check_searched(const struct group *g, size_t i)
         check_budget(g, i, answer, count - 1);
     check_budget(g, i, answer, count);
     check_budget(g, i, answer, count + 1);
+    compare_spoilt(g, i);
 }
 
 /* ---- texts */
@@ -191,32 +252,70 @@ static void check_room(const struct group *g, size_t i, size_t length)
         expect_made(g, i, answer, room);
 }
 
-/* Has both read a short text with each of its bytes left out in turn. */
-static void compare_shorter(const struct group *g, size_t i)
+/* Has both read a sheet's text with other bytes in place of those from one place to another. */
+static void compare_text(const struct group *g, size_t i, size_t from, size_t to, const char *bytes, size_t n)
 {
-    struct sheet s = g->sheets[i];
+    static char text[MOST_SPOILT];
+    const struct sheet *was = &g->sheets[i];
+    struct sheet s = *was;
     uint16_t room[MOST_ROOM / 2];
-    char text[MOST_TABLE];
+    memcpy(text, was->text, from);
+    memcpy(text + from, bytes, n);
+    memcpy(text + from + n, was->text + to, was->bytes - to);
     s.text = text;
-    s.bytes--;
+    s.bytes = from + n + was->bytes - to;
     s.m = g->lent / sizeof room[0];
-    for (size_t k = 0; k <= s.bytes; k++) {
-        memcpy(text, g->sheets[i].text, k);
-        memcpy(text + k, g->sheets[i].text + k + 1, s.bytes - k);
-        answer_sheet(g, i, &s, room);
+    answer_sheet(g, i, &s, room);
+}
+
+/* Has both read a short text in which each byte in turn is left out, or has something before it: a digit, too many words, too many ways, a kind line. */
+static void compare_bytes(const struct group *g, size_t i)
+{
+    static const char *const symbols[] = {
+        "1", "not not not not not not not not not not not not not not not ", "0 1 0 1 0 1 0 1 0 ", "\n0 : 0 ( )\n", "0 : 1 ( 1 2 )\n",
+    };
+    for (size_t k = 0; k < g->sheets[i].bytes; k++) {
+        compare_text(g, i, k, k + 1, "", 0);
+        for (size_t l = 0; l < sizeof symbols / sizeof symbols[0]; l++)
+            compare_text(g, i, k, k, symbols[l], strlen(symbols[l]));
     }
 }
 
-/* Has both write a short description with each of its words one larger in turn. */
-static void compare_larger(const struct group *g, size_t i)
+/* Has both read it with the bytes from one place to another typed as many times as this, after some others. */
+static void compare_repeated(const struct group *g, size_t i, const char *others, size_t from, size_t to, size_t times)
 {
-    struct sheet s = g->sheets[i];
-    uint16_t room[MOST_ROOM / 2];
-    s.m = g->lent;
-    for (size_t k = 0; k < s.n; k++) {
-        s.words[k]++;
-        answer_sheet(g, i, &s, room);
-        s.words[k]--;
+    static char bytes[MOST_SPOILT];
+    size_t n = strlen(others);
+    memcpy(bytes, others, n);
+    for (; times > 0; times--) {
+        memcpy(bytes + n, g->sheets[i].text + from, to - from);
+        n += to - from;
+    }
+    compare_text(g, i, from, to, bytes, n);
+}
+
+/* Where the line ends that has this place of a sheet's text. */
+static size_t line_end(const struct sheet *s, size_t at)
+{
+    while (s->text[at] != '\n')
+        at++;
+    return at;
+}
+
+/* Has both read a short text in which each line after the first in turn stands as many times as kind lines or relation lines may, and once more; and so do all lines
+   from it on, then after one more digit too: before the second line it makes the number of boards too large. */
+static void compare_lines(const struct group *g, size_t i)
+{
+    const struct sheet *s = &g->sheets[i];
+    size_t end = s->bytes - 1;
+    for (size_t from = line_end(s, 0), to; from < end; from = to) {
+        to = line_end(s, from + 1);
+        compare_repeated(g, i, "", from, to, MOST_KINDS);
+        compare_repeated(g, i, "", from, to, MOST_KINDS + 1);
+        compare_repeated(g, i, "", from, to, MOST_LINES);
+        compare_repeated(g, i, "", from, to, MOST_LINES + 1);
+        compare_repeated(g, i, "", from, end, MOST_LINES + 1);
+        compare_repeated(g, i, "0", from, end, MOST_LINES + 1);
     }
 }
 
@@ -229,8 +328,14 @@ static void check_text(const struct group *g, size_t i)
     check_room(g, i, 0);
     check_room(g, i, made_of(g, s) - 1);
     check_room(g, i, made_of(g, s) + 1);
-    if (s->bytes <= MOST_TABLE)
-        (g->task == READ ? compare_shorter : compare_larger)(g, i);
+    if (s->bytes > MOST_TABLE)
+        return;
+    if (g->task == WRITE) {
+        compare_spoilt(g, i);
+    } else {
+        compare_bytes(g, i);
+        compare_lines(g, i);
+    }
 }
 
 /* ---- groups */

@@ -35,6 +35,16 @@ struct kind_line {
     const uint16_t *ways;
 };
 
+/* What stands at the front of some words: a set, and where the words after its expression begin; or no set, and the first word that goes on with no expression,
+   or the end where words are missing. */
+struct expression {
+    int set;
+    const uint16_t *at;
+};
+
+/* In place of a set, where there is none. */
+enum { NO_SET = -1 };
+
 static const uint8_t relations[4] = {E, A, B, S};
 
 /* Each set the other way round: A and B exchanged. */
@@ -60,55 +70,50 @@ static const uint8_t compositions[256] = {
     0,  15, 15, 15, 15, 15, 15, 15, 15, 15, 15, 15, 15, 15, 15, 15,
 };
 
-/* Reads the expression at the front of the words. Answers where the words after it begin, or null if there is none. */
-static const uint16_t *evaluate(const uint16_t *at, const uint16_t *end, uint8_t *set)
+/* Reads the expression at the front of the words. Where an operand fails, the whole does. */
+static struct expression evaluate(const uint16_t *at, const uint16_t *end)
 {
-    if (at == end)
-        return 0;
-    uint16_t code = *at++;
-    if (code < UNION) {
-        *set = relations[code];
-        return at;
-    }
-    if (code > INVERSE)
-        return 0;
-    uint8_t x;
-    at = evaluate(at, end, &x);
-    if (!at)
-        return 0;
-    if (code == COMPLEMENT) {
-        *set = TALUNG_ANY - x;
-        return at;
-    }
-    if (code == INVERSE) {
-        *set = converses[x];
-        return at;
-    }
-    uint8_t y;
-    at = evaluate(at, end, &y);
-    if (!at)
-        return 0;
-    *set = code == UNION ? x | y : x & y;
-    return at;
+    if (at == end || *at > INVERSE)
+        return (struct expression){NO_SET, at};
+    uint16_t code = *at;
+    if (code < UNION)
+        return (struct expression){relations[code], at + 1};
+    struct expression x = evaluate(at + 1, end);
+    if (x.set < 0)
+        return x;
+    if (code == COMPLEMENT)
+        return (struct expression){TALUNG_ANY - x.set, x.at};
+    if (code == INVERSE)
+        return (struct expression){converses[x.set], x.at};
+    struct expression y = evaluate(x.at, end);
+    if (y.set < 0)
+        return y;
+    return (struct expression){code == UNION ? x.set | y.set : x.set & y.set, y.at};
 }
 
-/* Reads the relation line at the front of n words, for boards below v. Answers 0 or the refusal. */
-static int read_relation_line(size_t v, const uint16_t *words, size_t n, struct relation_line *line)
+/* Reads the relation line at the front of n words, for boards below v. Answers the refusal, if there is one, with its place from the line's first word. */
+static struct refusal read_relation_line(size_t v, const uint16_t *words, size_t n, struct relation_line *line)
 {
     if (n < HEAD_WORDS)
-        return TALUNG_UNFIT;
+        return refuse(TALUNG_UNFIT, n);
     size_t length = words[2];
-    if (length < 1 || length > MOST_WORDS || length > n - HEAD_WORDS)
-        return TALUNG_UNFIT;
-    if (words[0] >= v || words[1] >= v)
-        return TALUNG_NO_BOARD;
+    if (length < 1 || length > MOST_WORDS)
+        return refuse(TALUNG_UNFIT, 2);
+    if (length > n - HEAD_WORDS)
+        return refuse(TALUNG_UNFIT, n);
+    if (words[0] >= v)
+        return refuse(TALUNG_NO_BOARD, 0);
+    if (words[1] >= v)
+        return refuse(TALUNG_NO_BOARD, 1);
     const uint16_t *end = words + HEAD_WORDS + length;
-    if (evaluate(words + HEAD_WORDS, end, &line->allowed) != end)
-        return TALUNG_NO_EXPRESSION;
+    struct expression found = evaluate(words + HEAD_WORDS, end);
+    if (found.set < 0 || found.at != end)
+        return refuse(TALUNG_NO_EXPRESSION, (size_t)(found.at - words));
     line->p = words[0];
     line->q = words[1];
+    line->allowed = (uint8_t)found.set;
     line->length = HEAD_WORDS + length;
-    return 0;
+    return good;
 }
 
 /* Steps to the kind line at the front of the words, which has been read before. Answers where the words after it begin. */
@@ -121,94 +126,119 @@ static const uint16_t *next_kind_line(const uint16_t *words, struct kind_line *l
     return line->ways + line->count;
 }
 
-static int read_header(const uint16_t *words, size_t n, struct header *h)
+/* Reads a header, word by word. */
+static struct refusal read_header(const uint16_t *words, size_t n, struct header *h)
 {
     if (n < HEADER_WORDS)
-        return TALUNG_OUT_OF_RANGE;
+        return refuse(TALUNG_OUT_OF_RANGE, n);
     h->boards = words[0];
     h->lines = words[1];
     h->kinds = words[2];
     h->kinds_at = words[4];
-    if (h->boards < 1 || h->boards > TALUNG_MOST_BOARDS || h->lines > MOST_LINES || h->kinds > MOST_KINDS)
-        return TALUNG_OUT_OF_RANGE;
-    if (words[3] != HEADER_WORDS || h->kinds_at < HEADER_WORDS || h->kinds_at > words[5] || words[5] != n)
-        return TALUNG_MISPLACED;
-    return 0;
+    if (h->boards < 1 || h->boards > TALUNG_MOST_BOARDS)
+        return refuse(TALUNG_OUT_OF_RANGE, 0);
+    if (h->lines > MOST_LINES)
+        return refuse(TALUNG_OUT_OF_RANGE, 1);
+    if (h->kinds > MOST_KINDS)
+        return refuse(TALUNG_OUT_OF_RANGE, 2);
+    if (words[3] != HEADER_WORDS)
+        return refuse(TALUNG_MISPLACED, 3);
+    if (h->kinds_at < HEADER_WORDS || h->kinds_at > words[5])
+        return refuse(TALUNG_MISPLACED, 4);
+    if (words[5] != n)
+        return refuse(TALUNG_MISPLACED, 5);
+    return good;
 }
 
-/* Reads as many relation lines as this. They must fill the n words. */
-static int read_relation_lines(size_t v, size_t count, const uint16_t *words, size_t n)
+/* A section of n words after its last line, which ends at this place: words left over are refused. */
+static struct refusal ended(size_t at, size_t n)
+{
+    return at < n ? refuse(TALUNG_UNFIT, at) : good;
+}
+
+/* Reads as many relation lines as this. They must fill the n words. Answers the first refusal, if there is one, with its place in these words. */
+static struct refusal read_relation_lines(size_t v, size_t count, const uint16_t *words, size_t n)
 {
     size_t at = 0;
     for (size_t i = 0; i < count; i++) {
         struct relation_line line;
-        int refusal = read_relation_line(v, words + at, n - at, &line);
-        if (refusal)
-            return refusal;
+        struct refusal found = read_relation_line(v, words + at, n - at, &line);
+        if (found.number)
+            return later(at, found);
         at += line.length;
     }
-    return at < n ? TALUNG_UNFIT : 0;
+    return ended(at, n);
 }
 
-/* Reads the kind line at the front of n words, for boards below v. */
-static int read_kind_line(size_t v, const uint16_t *words, size_t n)
+/* Reads the kind line at the front of n words, for boards below v. Answers the refusal, if there is one, with its place from the line's first word. */
+static struct refusal read_kind_line(size_t v, const uint16_t *words, size_t n)
 {
     if (n < HEAD_WORDS)
-        return TALUNG_UNFIT;
+        return refuse(TALUNG_UNFIT, n);
     size_t ways = words[2];
-    if (ways > MOST_WAYS || ways > n - HEAD_WORDS)
-        return TALUNG_UNFIT;
+    if (ways > MOST_WAYS)
+        return refuse(TALUNG_UNFIT, 2);
+    if (ways > n - HEAD_WORDS)
+        return refuse(TALUNG_UNFIT, n);
     if (words[0] >= v)
-        return TALUNG_NO_BOARD;
+        return refuse(TALUNG_NO_BOARD, 0);
     for (size_t i = 0; i < ways; i++) {
         if (words[HEAD_WORDS + i] >= v)
-            return TALUNG_NO_BOARD;
+            return refuse(TALUNG_NO_BOARD, HEAD_WORDS + i);
     }
-    return 0;
+    return good;
 }
 
-/* Reads as many kind lines as this. They must fill the n words. */
-static int read_kind_lines(size_t v, size_t count, const uint16_t *words, size_t n)
-{
-    size_t at = 0;
-    for (size_t i = 0; i < count; i++) {
-        int refusal = read_kind_line(v, words + at, n - at);
-        if (refusal)
-            return refusal;
-        at += HEAD_WORDS + words[at + 2];
-    }
-    return at < n ? TALUNG_UNFIT : 0;
-}
-
-/* Whether one of these kind lines, which have been read, has the code of an earlier one and another number of ways. */
-static int kind_lines_disagree(size_t count, const uint16_t *words)
+/* Where the first of these kind lines begins, which have been read, that has the code of an earlier one and another number of ways; or n, their number of words. */
+static size_t first_disagreeing(size_t count, const uint16_t *words, size_t n)
 {
     const uint16_t *at = words;
     for (size_t i = 0; i < count; i++) {
         const uint16_t *before = words;
         for (size_t j = 0; j < i; j++) {
             if (before[1] == at[1] && before[2] != at[2])
-                return 1;
+                return (size_t)(at - words);
             before += HEAD_WORDS + before[2];
         }
         at += HEAD_WORDS + at[2];
     }
-    return 0;
+    return n;
 }
 
-/* Reads a whole description. Answers 0 or the first refusal. Each of its two callers has it in its own code, so that a closing reads without a call. */
-static inline __attribute__((always_inline)) int read_whole(const uint16_t *words, size_t n, struct header *h)
+/* Reads as many kind lines as this. They must fill the n words. Answers the first refusal, if there is one, with its place in these words. */
+static struct refusal read_kind_lines(size_t v, size_t count, const uint16_t *words, size_t n)
 {
-    int refusal = read_header(words, n, h);
-    if (refusal)
-        return refusal;
-    refusal = read_relation_lines(h->boards, h->lines, words + HEADER_WORDS, h->kinds_at - HEADER_WORDS);
-    if (refusal)
-        return refusal;
-    refusal = read_kind_lines(h->boards, h->kinds, words + h->kinds_at, n - h->kinds_at);
-    if (refusal)
-        return refusal;
-    return kind_lines_disagree(h->kinds, words + h->kinds_at) ? TALUNG_DISAGREES : 0;
+    size_t at = 0;
+    for (size_t i = 0; i < count; i++) {
+        struct refusal found = read_kind_line(v, words + at, n - at);
+        if (found.number)
+            return later(at, found);
+        at += HEAD_WORDS + words[at + 2];
+    }
+    return ended(at, n);
+}
+
+/* Reads the same, and then looks for a line that disagrees with an earlier one: it is refused at its number of ways. */
+static struct refusal read_agreed_lines(size_t v, size_t count, const uint16_t *words, size_t n)
+{
+    struct refusal found = read_kind_lines(v, count, words, n);
+    if (found.number)
+        return found;
+    size_t at = first_disagreeing(count, words, n);
+    return at < n ? refuse(TALUNG_DISAGREES, at + 2) : good;
+}
+
+/* Reads a whole description. Answers the first refusal, if there is one. Each of its two callers has it in its own code, so that a closing reads without a call. */
+static inline __attribute__((always_inline)) struct refusal read_whole(const uint16_t *words, size_t n, struct header *h)
+{
+    struct refusal found = read_header(words, n, h);
+    if (found.number)
+        return found;
+    found = read_relation_lines(h->boards, h->lines, words + HEADER_WORDS, h->kinds_at - HEADER_WORDS);
+    if (found.number)
+        return later(HEADER_WORDS, found);
+    found = read_agreed_lines(h->boards, h->kinds, words + h->kinds_at, n - h->kinds_at);
+    return found.number ? later(h->kinds_at, found) : good;
 }
 
 /* Narrows one cell to what the bound has too. Answers how many relations that struck. */
@@ -238,7 +268,7 @@ static int rules4(size_t v, size_t count, const uint16_t *words, size_t n, uint8
     size_t at = 0;
     for (size_t i = 0; i < count; i++) {
         struct relation_line line;
-        if (read_relation_line(v, words + at, n - at, &line))
+        if (read_relation_line(v, words + at, n - at, &line).number)
             return struck;
         struck += narrow(&cells[v * line.p + line.q], line.allowed);
         at += line.length;
@@ -406,33 +436,39 @@ int close_again(const struct header *h, const uint16_t *words, uint8_t *cells)
     return rounds(h->boards, h->kinds, words + h->kinds_at, cells);
 }
 
-int read_description(const uint16_t *words, size_t n, struct header *h)
+struct refusal read_description(const uint16_t *words, size_t n, struct header *h)
 {
     return read_whole(words, n, h);
 }
 
-int take(const uint16_t *words, size_t n, const uint8_t *table, size_t m, struct header *h, uint8_t *cells)
+/* Copies the m cells of a table. Answers whether each of them is a set. A call of its own, so that its loop is compiled alike whatever stands beside it. */
+static __attribute__((noinline)) int copy_table(const uint8_t *table, size_t m, uint8_t *cells)
 {
-    int refusal = read_whole(words, n, h);
-    if (refusal)
-        return refusal;
-    if (m != h->boards * h->boards)
-        return TALUNG_NO_TABLE;
     for (size_t i = 0; i < m; i++) {
         if (table[i] > TALUNG_ANY)
-            return TALUNG_NO_TABLE;
+            return 0;
         cells[i] = table[i];
     }
-    return 0;
+    return 1;
+}
+
+struct refusal take(const uint16_t *words, size_t n, const uint8_t *table, size_t m, struct header *h, uint8_t *cells)
+{
+    struct refusal found = read_whole(words, n, h);
+    if (found.number)
+        return found;
+    if (m != h->boards * h->boards || !copy_table(table, m, cells))
+        return refuse(TALUNG_NO_TABLE, 0);
+    return good;
 }
 
 uint64_t plain_close(const uint16_t *words, size_t n, uint8_t *table, size_t m)
 {
     struct header h;
     uint8_t cells[TALUNG_MOST_CELLS];
-    int refusal = take(words, n, table, m, &h, cells);
-    if (refusal)
-        return answer(refusal, 0);
+    struct refusal found = take(words, n, table, m, &h, cells);
+    if (found.number)
+        return refuse_at(found);
     int struck = close_cells(&h, words, cells);
     if (struck < 0)
         return answer(TALUNG_CONTRADICTORY, 0);

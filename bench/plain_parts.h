@@ -20,6 +20,32 @@ static inline uint64_t answer(uint32_t number, uint32_t count)
     return number + 4294967296u * (uint64_t)count;
 }
 
+/* Why a description or what is lent with it is refused: the number of the refusal, 0 where there is none, and its place in the words that were read. */
+struct refusal {
+    int number;
+    size_t place;
+};
+
+/* No refusal. */
+static const struct refusal good = {0, 0};
+
+static inline struct refusal refuse(int number, size_t place)
+{
+    return (struct refusal){number, place};
+}
+
+/* The same refusal, where so many words stand before those that were read. */
+static inline struct refusal later(size_t words, struct refusal found)
+{
+    return refuse(found.number, words + found.place);
+}
+
+/* The answer of a call that refuses: its count is the place. */
+static inline uint64_t refuse_at(struct refusal found)
+{
+    return answer((uint32_t)found.number, (uint32_t)found.place);
+}
+
 struct header {
     size_t boards;
     size_t lines;
@@ -27,11 +53,11 @@ struct header {
     size_t kinds_at;
 };
 
-/* Reads the description of n words. Answers 0 or the first refusal. */
-int read_description(const uint16_t *words, size_t n, struct header *h);
+/* Reads the description of n words. Answers the first refusal, if there is one. */
+struct refusal read_description(const uint16_t *words, size_t n, struct header *h);
 
-/* Reads the description of n words, and copies the table of m cells. Answers 0 or the first refusal. */
-int take(const uint16_t *words, size_t n, const uint8_t *table, size_t m, struct header *h, uint8_t *cells);
+/* Reads the description of n words, and copies the table of m cells. Answers the first refusal, if there is one. */
+struct refusal take(const uint16_t *words, size_t n, const uint8_t *table, size_t m, struct header *h, uint8_t *cells);
 
 /* Closes the cells under the description. Answers the number struck, or -1 if a cell is empty. */
 int close_cells(const struct header *h, const uint16_t *words, uint8_t *cells);

@@ -132,9 +132,9 @@ uint64_t plain_search(const uint16_t *words, size_t n, uint8_t *table, size_t m,
     static const uint8_t order[RELATIONS] = {0, 1, 2, 3};
     struct header h;
     struct state s;
-    int refusal = take(words, n, table, m, &h, s.first);
-    if (refusal)
-        return answer(refusal, 0);
+    struct refusal refused = take(words, n, table, m, &h, s.first);
+    if (refused.number)
+        return refuse_at(refused);
     if (close_cells(&h, words, s.first) < 0)
         return answer(TALUNG_NOWHERE, 0);
     s.header = &h;

@@ -377,12 +377,16 @@ uint64_t plain_from_text(const char *text, size_t bytes, uint16_t *words, size_t
     size_t fault = gather(text, text + bytes, &made);
     if (fault)
         return answer(TALUNG_NO_SHEET, (uint32_t)(fault < most_count ? fault : most_count));
-    if (made.relations > MOST_LINES || made.kinds > MOST_KINDS)
+    if (made.boards < 1 || made.boards > TALUNG_MOST_BOARDS)
         return answer(TALUNG_OUT_OF_RANGE, 0);
+    if (made.relations > MOST_LINES)
+        return answer(TALUNG_OUT_OF_RANGE, 1);
+    if (made.kinds > MOST_KINDS)
+        return answer(TALUNG_OUT_OF_RANGE, 2);
     size_t total = join(&made);
-    int refusal = read_description(made.words, total, &h);
-    if (refusal)
-        return answer(refusal, 0);
+    struct refusal found = read_description(made.words, total, &h);
+    if (found.number)
+        return refuse_at(found);
     if (room < total)
         return answer(TALUNG_NO_ROOM, 0);
     put_words(words, made.words, total);
@@ -500,9 +504,9 @@ static uint64_t write_apart(const struct header *h, const uint16_t *words, char 
 uint64_t plain_to_text(const uint16_t *words, size_t n, char *text, size_t room)
 {
     struct header h;
-    int refusal = read_description(words, n, &h);
-    if (refusal)
-        return answer(refusal, 0);
+    struct refusal found = read_description(words, n, &h);
+    if (found.number)
+        return refuse_at(found);
     if (room < TALUNG_MOST_TEXT)
         return write_apart(&h, words, text, room);
     return answer(TALUNG_OK, (uint32_t)(put_sheet(&h, words, text) - text));

@@ -159,80 +159,97 @@ static void make_contradictory(struct sheet *s, size_t kind)
 
 /* ---- sheets that are refused */
 
+/* Each of these spoils a good sheet in one of some ways, and answers the place of the refusal. */
+
+/* The word at this place becomes another. */
+static size_t spoil_word(struct sheet *s, size_t place, uint16_t word)
+{
+    s->words[place] = word;
+    return place;
+}
+
+/* So many words alone are lent. */
+static size_t cut(struct sheet *s, size_t n)
+{
+    s->n = n;
+    return n;
+}
+
 /* Too few words, or a number of the header out of range. */
-static void spoil_numbers(struct sheet *s, size_t way)
+static size_t spoil_numbers(struct sheet *s, size_t way)
 {
     switch (way) {
-    case 0: s->n = 0; break;
-    case 1: s->n = 5; break;
-    case 2: s->words[0] = 0; break;
-    case 3: s->words[0] = 17; break;
-    case 4: s->words[0] = 65535; break;
-    case 5: s->words[1] = 129; break;
-    case 6: s->words[2] = 17; break;
-    default: s->words[2] = 65535; break;
+    case 0: return cut(s, 0);
+    case 1: return cut(s, 5);
+    case 2: return spoil_word(s, 0, 0);
+    case 3: return spoil_word(s, 0, 17);
+    case 4: return spoil_word(s, 0, 65535);
+    case 5: return spoil_word(s, 1, 129);
+    case 6: return spoil_word(s, 2, 17);
+    default: return spoil_word(s, 2, 65535);
     }
 }
 
 /* An offset or the total wrong. */
-static void spoil_offsets(struct sheet *s, size_t way)
+static size_t spoil_offsets(struct sheet *s, size_t way)
 {
     switch (way) {
-    case 0: s->words[3] = 5; break;
-    case 1: s->words[3] = 7; break;
-    case 2: s->words[4] = 5; break;
-    case 3: s->words[4] = s->n + 1; break;
-    case 4: s->words[4] = 0; break;
-    case 5: s->words[5]++; break;
-    case 6: s->words[5] = 65535; break;
-    default: s->n--; break;
+    case 0: return spoil_word(s, 3, 5);
+    case 1: return spoil_word(s, 3, 7);
+    case 2: return spoil_word(s, 4, 5);
+    case 3: return spoil_word(s, 4, s->n + 1);
+    case 4: return spoil_word(s, 4, 0);
+    case 5: return spoil_word(s, 5, s->n + 1);
+    case 6: return spoil_word(s, 5, 65535);
+    default: s->n--; return 5;
     }
 }
 
 /* A length or a number of ways out of range, a line that runs past its section, or words left over. */
-static void spoil_lengths(struct sheet *s, size_t way, uint16_t *line, uint16_t *kind)
+static size_t spoil_lengths(struct sheet *s, size_t way, size_t line, size_t kind)
 {
     switch (way) {
-    case 0: line[2] = 0; break;
-    case 1: s->words[HEADER + 2] = 16; break;
-    case 2: s->words[4]--; break;
-    case 3: s->words[1]--; break;
-    case 4: s->words[2]--; break;
-    case 5: s->words[s->words[4] + 2] = 9; break;
-    case 6: kind[2]++; break;
-    default: kind[2]--; break;
+    case 0: return spoil_word(s, line + 2, 0);
+    case 1: return spoil_word(s, HEADER + 2, 16);
+    case 2: return --s->words[4];
+    case 3: s->words[1]--; return line;
+    case 4: s->words[2]--; return kind;
+    case 5: return spoil_word(s, s->words[4] + 2, 9);
+    case 6: return ++s->words[kind + 2] > MOST_WAYS ? kind + 2 : s->n;
+    default: s->words[kind + 2]--; return s->n - 1;
     }
 }
 
 /* A board that the site has not. */
-static void spoil_boards(struct sheet *s, size_t way, uint16_t *line, uint16_t *kind)
+static size_t spoil_boards(struct sheet *s, size_t way, size_t line, size_t kind)
 {
     uint16_t boards = s->words[0];
     switch (way) {
-    case 0: line[0] = boards; break;
-    case 1: line[1] = boards; break;
-    case 2: kind[0] = boards; break;
-    case 3: kind[HEAD] = boards; break;
-    case 4: s->words[HEADER] = 65535; break;
-    case 5: s->words[HEADER + 1] = boards; break;
-    case 6: s->words[s->words[4]] = boards; break;
-    default: s->words[s->n - 1] = 65535; break;
+    case 0: return spoil_word(s, line, boards);
+    case 1: return spoil_word(s, line + 1, boards);
+    case 2: return spoil_word(s, kind, boards);
+    case 3: return spoil_word(s, kind + HEAD, boards);
+    case 4: return spoil_word(s, HEADER, 65535);
+    case 5: return spoil_word(s, HEADER + 1, boards);
+    case 6: return spoil_word(s, s->words[4], boards);
+    default: return spoil_word(s, s->n - 1, 65535);
     }
 }
 
-/* A code that there is not, or an operator without its operand. */
-static void spoil_expression(size_t way, uint16_t *line)
+/* A code that there is not, or an operator without its operand: there a word is missing after the last. */
+static size_t spoil_expression(struct sheet *s, size_t way, size_t line)
 {
+    size_t last = line + HEAD + s->words[line + 2] - 1;
     switch (way) {
-    case 0: line[HEAD] = 8; break;
-    case 1: line[HEAD] = 65535; break;
-    case 2: line[HEAD + line[2] - 1] = UNION; break;
-    default: line[HEAD + line[2] - 1] = COMPLEMENT; break;
+    case 0: return spoil_word(s, line + HEAD, 8);
+    case 1: return spoil_word(s, line + HEAD, 65535);
+    case 2: return spoil_word(s, last, UNION) + 1;
+    default: return spoil_word(s, last, COMPLEMENT) + 1;
     }
 }
 
-/* A wrong number of cells, or a cell that is no set. */
-static void spoil_table(struct sheet *s, size_t way)
+/* A wrong number of cells, or a cell that is no set: that has no place. */
+static size_t spoil_table(struct sheet *s, size_t way)
 {
     switch (way) {
     case 0: s->m = 0; break;
@@ -244,49 +261,53 @@ static void spoil_table(struct sheet *s, size_t way)
     case 6: s->table[s->m - 1] = 16; break;
     default: s->table[s->m - 1] = 255; break;
     }
+    return 0;
 }
 
 /* A kind line more, with the code of the last one and another number of ways. */
-static void spoil_kinds(struct sheet *s, size_t way, const uint16_t *last_kind)
+static size_t spoil_kinds(struct sheet *s, size_t way, size_t kind)
 {
     static const uint16_t ways[MOST_WAYS];
-    add_kind_line(s, below(16), last_kind[1], ways, (last_kind[2] + 1 + way) % (MOST_WAYS + 1));
+    size_t added = s->n;
+    add_kind_line(s, below(16), s->words[kind + 1], ways, (s->words[kind + 2] + 1 + way) % (MOST_WAYS + 1));
+    return added + 2;
 }
 
-/* The last one of some lines that begin at this word. */
-static uint16_t *last_line(struct sheet *s, size_t at, size_t count)
+/* Where the last one of some lines begins, of which the first begins at this word. */
+static size_t last_line(const struct sheet *s, size_t at, size_t count)
 {
     for (size_t i = 1; i < count; i++)
         at += HEAD + s->words[at + 2];
-    return s->words + at;
+    return at;
+}
+
+/* Spoils a good sheet so that it must be refused with this number, and keeps the place of the refusal. */
+static void spoil(struct sheet *s, unsigned number, size_t way)
+{
+    size_t line = last_line(s, HEADER, s->words[1]);
+    size_t kind = last_line(s, s->words[4], s->words[2]);
+    s->number = number;
+    switch (number) {
+    case TALUNG_OUT_OF_RANGE: s->place = spoil_numbers(s, way); break;
+    case TALUNG_MISPLACED: s->place = spoil_offsets(s, way); break;
+    case TALUNG_UNFIT: s->place = spoil_lengths(s, way, line, kind); break;
+    case TALUNG_NO_BOARD: s->place = spoil_boards(s, way, line, kind); break;
+    case TALUNG_NO_EXPRESSION: s->place = spoil_expression(s, way % 4, way < 4 ? HEADER : line); break;
+    case TALUNG_NO_TABLE: s->place = spoil_table(s, way); break;
+    default: s->place = spoil_kinds(s, way, kind); break;
+    }
 }
 
 /* A good sheet that is then spoilt. There are 56 kinds: eight ways for each refusal from 1 to 6, and for 11. */
 static void make_refused(struct sheet *s, size_t kind)
 {
     struct site site;
-    size_t way = kind % 8;
     grow(&site, 16, between(6, 16));
     begin(s, 16);
     add_holding_lines(s, &site, between(32, MOST_LINES), MOST_WORDS);
     for (size_t i = 0; i < 8; i++)
         add_panel_with_ways(s, &site);
-    uint16_t *first = s->words + HEADER;
-    uint16_t *last = last_line(s, HEADER, s->words[1]);
-    uint16_t *last_kind = last_line(s, s->words[4], s->words[2]);
-    s->number = 1 + kind / 8;
-    switch (s->number) {
-    case 1: spoil_numbers(s, way); break;
-    case 2: spoil_offsets(s, way); break;
-    case 3: spoil_lengths(s, way, last, last_kind); break;
-    case 4: spoil_boards(s, way, last, last_kind); break;
-    case 5: spoil_expression(way % 4, way < 4 ? first : last); break;
-    case 6: spoil_table(s, way); break;
-    default:
-        spoil_kinds(s, way, last_kind);
-        s->number = TALUNG_DISAGREES;
-        break;
-    }
+    spoil(s, kind < 48 ? 1 + kind / 8 : TALUNG_DISAGREES, kind % 8);
 }
 
 /* ---- the groups */

@@ -16,9 +16,10 @@ enum {
     TEXT_GROUPS = 10
 };
 
-/* A description, the table and the budget lent with it, and the number that must be answered. Where the description was taken off a site, the site's
-   relation for each cell, which the closed table must still have, and which no arrangement found may come after; else zeros. In the groups of texts, the text
-   that is read or that must be written, and for m the length of the lent room. */
+/* A description, the table and the budget lent with it, and the number that must be answered; where the description is refused, the place that must be
+   answered, else 0. Where the description was taken off a site, the site's relation for each cell, which the closed table must still have, and which no
+   arrangement found may come after; else zeros. In the groups of texts, the text that is read or that must be written, and for m the length of the lent
+   room. */
 struct sheet {
     uint16_t words[TALUNG_MOST_WORDS];
     size_t n;
@@ -26,6 +27,7 @@ struct sheet {
     size_t m;
     uint32_t budget;
     uint8_t number;
+    uint16_t place;
     uint8_t site[TALUNG_MOST_CELLS];
     const char *text;
     size_t bytes;

@@ -107,6 +107,7 @@ static void make_nots(struct sheet *s)
     type(s, "not ", MEGABYTE / 4);
     type(s, "same 1\n", 1);
     s->number = TALUNG_UNFIT;
+    s->place = HEADER + 2;
 }
 
 /* Far too many words that are joined. */
@@ -117,6 +118,7 @@ static void make_words(struct sheet *s)
     type(s, " or same", MEGABYTE / 8);
     type(s, " 1\n", 1);
     s->number = TALUNG_UNFIT;
+    s->place = HEADER + 2;
 }
 
 /* ---- the groups */

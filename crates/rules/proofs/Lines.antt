@@ -58,9 +58,6 @@ before-boards v (y ∷ ys) i h = go (ltb y v) refl i h (before-boards v ys)
     go true e (suc i) h f = f i (omega (arith, h))
     go false e i h f = let z : ⊥ = omega arith in absurd z
 
-pub boardsOnly-in : (v : ℕ) (ys : List ℕ) → ((i : ℕ) → i < length ys → getD ys i 0 < v) → T (boardsOnly v ys)
-boardsOnly-in v ys h = le→leb (length ys) (boardsBefore v ys) (omega (arith, boards-all v ys h))
-
 pub boardsOnly-out : (v : ℕ) (ys : List ℕ) → T (boardsOnly v ys) → (i : ℕ) → i < length ys → getD ys i 0 < v
 boardsOnly-out v ys t i h = before-boards v ys i (omega (arith, h, leb→le (length ys) (boardsBefore v ys) t))
 

@@ -1,9 +1,9 @@
 -- A reading by the tests that it passes or fails, in turn. Assumes nothing.
-use mathlib.Core.Path.{_≡_, refl, sym, ap}
+use mathlib.Core.Path.{_≡_, refl, ap}
 use mathlib.Core.Bool.{Bool, true, false}
 use mathlib.Core.List.{List, _∷_}
 use Prim.Native.Nat.{ℕ, suc, _+_, _-_}
-use native.Mathlib.Nat.{zero-add, add-assoc}
+use native.Mathlib.Nat.{zero-add}
 use lib.Dec.{T}
 use lib.ListN.{length}
 use Rattle.rules.specs.Descriptions.{Reading, good, refused, Front, need, next, later, section}
@@ -37,7 +37,7 @@ module _ {X : Type 0} where
   next-out (good y) f x p = (y, refl, p)
   next-out (refused n k) f x p = never n k x p
 
-  -- words that stand before change the place alone, one after the other as all together
+  -- words that stand before change the place alone
   pub later-out : (m : ℕ) (r : Reading X) (x : X) → later m r ≡ good x → r ≡ good x
   later-out m (good y) x p = p
   later-out m (refused n k) x p = never n (m + k) x p
@@ -45,14 +45,6 @@ module _ {X : Type 0} where
   pub later-none : (r : Reading X) → later 0 r ≡ r
   later-none (good x) = refl
   later-none (refused n k) = ap (refused n) (zero-add k)
-
-  pub later-twice : (m l : ℕ) (r : Reading X) → later m (later l r) ≡ later (m + l) r
-  later-twice m l (good x) = refl
-  later-twice m l (refused n k) = ap (refused n) (sym (add-assoc m l k))
-
-  pub later-next : {Y : Type 0} (m : ℕ) (r : Reading Y) (f : Y → X) → next (later m r) (λ y. good (f y)) ≡ later m (next r (λ y. good (f y)))
-  later-next m (good y) f = refl
-  later-next m (refused n k) f = refl
 
 -- a good section of some lines is its first line and a good section of the others
 pub section-first : {X : Type 0} (line : List ℕ → Reading (Front X)) (n : ℕ) (ws : List ℕ) (xs : List X) → section line (suc n) ws ≡ good xs

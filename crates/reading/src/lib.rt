@@ -64,7 +64,7 @@ fn join(words: &mut [u16], kinds: &[u16], lines: Gathered) -> usize
     total
 }
 
-// Reads the words that were made, and hands them over: refuses them with 1 to 5 and 11, then a room that is too small with 19.
+// Reads the words that were made, and hands them over: refuses them with 1 to 5 and 11, and the place, then a room that is too small with 19.
 fn hand_over(words: &[u16], room: &mut [u16]) -> Answer
     requires { ⌜ length (now words) ≤ mostWords ⌝ }
     ensures { λ a. ⌜ outcome a (now (room .exit)) ≡ given (read (now (words .entry))) (now (room .entry)) (λ s. inRoom (now (words .entry)) (now (room .entry))) ⌝ }
@@ -81,7 +81,8 @@ fn hand_over(words: &[u16], room: &mut [u16]) -> Answer
 }
 
 // Reads a typed sheet: the words of its description go to the front of the lent room, and the answer has how many they are. Refuses the first
-// malformed line with 20 and its number, then the words made with 1 to 5 and 11, then a room that is too small with 19; and then leaves the room as it came.
+// malformed line with 20 and its number, then the words made with 1 to 5 and 11, and the place in these, then a room that is too small with 19; and then leaves
+// the room as it came.
 pub fn from_text(text: &[u8], room: &mut [u16]) -> Answer
     ensures { λ a. ⌜ outcome a (now (room .exit)) ≡ fromText (now (text .entry)) (now (room .entry)) ⌝ }
 {

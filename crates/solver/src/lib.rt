@@ -39,8 +39,8 @@ pub fn fresh(v: usize, table: &mut [u8]) -> Answer
     succeed(0)
 }
 
-// Replaces the lent table by the largest closed table inside it, and answers how many relations that struck. Refuses a description with 1 to 5 and 11, then a
-// table that is none of as many boards with 6, then with 7 where the largest closed table has an empty cell; and then leaves the table as it came.
+// Replaces the lent table by the largest closed table inside it, and answers how many relations that struck. Refuses a description with 1 to 5 and 11, and the
+// place, then a table that is none of as many boards with 6, then with 7 where the largest closed table has an empty cell; and then leaves the table as it came.
 pub fn close(words: &[u16], table: &mut [u8]) -> Answer
     ensures { λ a. ⌜ outcome a (now (table .exit)) ≡ close (now (words .entry)) (now (table .entry)) ⌝ }
 {
@@ -58,8 +58,8 @@ fn plain_order() -> [u8; RELATIONS]
 }
 
 // Replaces the lent table by the first arrangement inside it, in the order E, A, B, S, and answers how many tries that took. Refuses a description
-// with 1 to 5 and 11, then a table that is none of as many boards with 6, then with 8 and the tries made where there is no arrangement inside it, or with 9
-// and the budget where more tries are needed; and then leaves the table as it came.
+// with 1 to 5 and 11, and the place, then a table that is none of as many boards with 6, then with 8 and the tries made where there is no arrangement inside
+// it, or with 9 and the budget where more tries are needed; and then leaves the table as it came.
 pub fn search(words: &[u16], table: &mut [u8], budget: u32) -> Answer
     ensures { λ a. ⌜ outcome a (now (table .exit)) ≡ searching plainOrder (now (words .entry)) (now (table .entry)) budget ⌝ }
 {
@@ -72,8 +72,8 @@ pub fn search(words: &[u16], table: &mut [u8], budget: u32) -> Answer
     }
 }
 
-// Says whether the table is an arrangement, whoever proposed it: 0 if it is, 10 if not. Refuses a description with 1 to 5 and 11, then a table that is none
-// of as many boards with 6. The table is only read.
+// Says whether the table is an arrangement, whoever proposed it: 0 if it is, 10 if not. Refuses a description with 1 to 5 and 11, and the place, then a table
+// that is none of as many boards with 6. The table is only read.
 pub fn check(words: &[u16], table: &[u8]) -> Answer
     ensures { λ a. ⌜ outcome a (now (table .entry)) ≡ check (now (words .entry)) (now (table .entry)) ⌝ }
 {

@@ -28,7 +28,7 @@ fn write_apart(words: &[u16], room: &mut [u8]) -> Answer
 }
 
 // Writes a description as it is typed: the text goes to the front of the lent room, and the answer has how many bytes it has. Refuses a description
-// with 1 to 5 and 11, then a room that is too small with 19; and then leaves the room as it came.
+// with 1 to 5 and 11, and the place, then a room that is too small with 19; and then leaves the room as it came.
 pub fn to_text(words: &[u16], room: &mut [u8]) -> Answer
     ensures { λ a. ⌜ outcome a (now (room .exit)) ≡ toText (now (words .entry)) (now (room .entry)) ⌝ }
 {

@@ -73,8 +73,8 @@ enum {
     TALUNG_UNFIT = 3,          /* a line runs past its section, its length or number of ways is out of range, or words are left over */
     TALUNG_NO_BOARD = 4,       /* a line names a board that the site has not */
     TALUNG_NO_EXPRESSION = 5,  /* an expression has a code above 7, breaks off, or has words left over */
-    TALUNG_NO_TABLE = 6,       /* the table has not V times V cells, or a cell is above 15 */
-    TALUNG_CONTRADICTORY = 7,  /* closing: the description and the table contradict each other */
+    TALUNG_NO_TABLE = 6,       /* the table has not V times V cells, or a cell is above 15; opening takes cells of any contents */
+    TALUNG_CONTRADICTORY = 7,  /* opening: the description contradicts itself; closing: the description and the table contradict each other */
     TALUNG_NOWHERE = 8,        /* search: no tree fits; the count is of the tries made */
     TALUNG_RAN_OUT = 9,        /* search: more tries are needed than the budget; the count is the budget */
     TALUNG_NO_ARRANGEMENT = 10, /* check: the table is no tree that fits */
@@ -112,19 +112,22 @@ static inline uint32_t talung_count(uint64_t answer)
 /* Reads a description of n words. Answers TALUNG_OK if it is good, else a refusal from 1 to 5 or TALUNG_DISAGREES, with its place. */
 uint64_t talung_read(const uint16_t *words, size_t n);
 
-/* Makes the table one of v boards of which nothing is known yet: each cell is TALUNG_ANY. Answers TALUNG_OK; or TALUNG_OUT_OF_RANGE where v is not 1 to 16,
- * whatever 32-bit number it is, then TALUNG_NO_TABLE where there are not v times v cells. It takes no description, so the count is always 0. What the cells
- * hold before does not matter. */
-uint64_t talung_fresh(uint32_t v, uint8_t *table, size_t cells);
+/* Opens a table: whatever the cells hold, all is taken as possible, as if each were TALUNG_ANY, and then what the rules exclude under the description is struck.
+ * Leaves the largest table in which no rule strikes anything, and loses no tree that fits. Answers TALUNG_OK, and counts the relations struck, from 3 for each
+ * board to 768; or a refusal from 1 to 5 or TALUNG_DISAGREES, with its place; or TALUNG_NO_TABLE, where there are not V times V cells, or
+ * TALUNG_CONTRADICTORY. A table is opened first. Then it is closed under further lines, or searched. */
+uint64_t talung_open(const uint16_t *words, size_t n, uint8_t *table, size_t cells);
 
-/* Strikes from the table what the rules exclude under the description: leaves the largest table inside it in which no rule strikes anything, and loses no
- * tree that fits. Answers TALUNG_OK, and counts the relations struck, 0 to 768; or a refusal from 1 to 5 or TALUNG_DISAGREES, with its place; or
- * TALUNG_NO_TABLE or TALUNG_CONTRADICTORY. */
+/* Closes a table: strikes from it what the rules exclude under the description. Leaves the largest table inside it in which no rule strikes anything, and loses
+ * no tree that fits. Answers TALUNG_OK, and counts the relations struck, 0 to 768; or a refusal from 1 to 5 or TALUNG_DISAGREES, with its place; or
+ * TALUNG_NO_TABLE or TALUNG_CONTRADICTORY. An opened table that is closed under all its lines and some more comes to what one opening under all of them leaves;
+ * if that is contradictory, some stage is. */
 uint64_t talung_close(const uint16_t *words, size_t n, uint8_t *table, size_t cells);
 
 /* Looks for a tree inside the table that fits the description, with at most as many tries as the budget, which is any number. Leaves the first one in the order
  * of its cells (p, q) with p < q, same before above before below before side: each cell is then a single relation. Answers TALUNG_OK, and counts the
- * tries made; or a refusal from 1 to 5 or TALUNG_DISAGREES, with its place; or TALUNG_NO_TABLE, TALUNG_NOWHERE or TALUNG_RAN_OUT. */
+ * tries made; or a refusal from 1 to 5 or TALUNG_DISAGREES, with its place; or TALUNG_NO_TABLE, TALUNG_NOWHERE or TALUNG_RAN_OUT. In a table that was opened
+ * under the same description it finds what it finds where each cell is TALUNG_ANY, after as many tries. */
 uint64_t talung_search(const uint16_t *words, size_t n, uint8_t *table, size_t cells, uint32_t budget);
 
 /* Says whether the table is a tree that fits the description, whoever proposed it, and only reads it. Answers TALUNG_OK if it is; else a refusal from 1 to 5 or

@@ -188,7 +188,7 @@ determined() {
 # these, or stands in a file that the same cell names.
 demands() {
     over '
-        $1 ~ /^crates\/demands\/proofs\/(Arities|Contracts|Demands|Places|Refuted|Texts)\.antt$/ && $4 == "pub" || $1 ~ /^crates\/demands\/specs\/(Arities|Places|Sentences|Texts)\.antt$/ && $4 == "field" {
+        $1 ~ /^crates\/demands\/proofs\/(Arities|Contracts|Demands|Openings|Places|Refuted|Texts)\.antt$/ && $4 == "pub" || $1 ~ /^crates\/demands\/specs\/(Arities|Openings|Places|Sentences|Texts)\.antt$/ && $4 == "field" {
             print "theorem " $2 " of the demands", $3, "docs/STATEMENTS.md"
         }
     ' "$room/signatures" >>"$room/tree"

@@ -1,5 +1,5 @@
-/* Describes five sites in code, has them closed, searched and checked, and says what comes of it; writes one of them as a sheet, and reads sheets. To be linked
- * with libtalung.a. */
+/* Describes five sites in code, has them opened, searched and checked, and says what comes of it; closes one in stages; writes one as a sheet, and reads sheets. To
+ * be linked with libtalung.a. */
 #include <assert.h>
 #include <stdio.h>
 #include <string.h>
@@ -16,13 +16,18 @@ struct site {
     size_t n;
 };
 
-/* "At or above" allows that both are one board. Said both ways, they are. */
+/* "At or above" allows that both are one board. Said one way, either may be; said both ways, they are one. */
 static const char *const pair_names[] = {"switch", "board A"};
 static const uint16_t pair_words[] = {
     2, 2, 0, 6, 18, 18,
     0, 1, 3, TALUNG_EITHER, TALUNG_IS_SAME, TALUNG_IS_ABOVE,
     1, 0, 3, TALUNG_EITHER, TALUNG_IS_SAME, TALUNG_IS_ABOVE,
 };
+static const uint16_t half_words[] = {
+    2, 1, 0, 6, 12, 12,
+    0, 1, 3, TALUNG_EITHER, TALUNG_IS_SAME, TALUNG_IS_ABOVE,
+};
+static const struct site half = {"The switch is at or above board A", pair_names, 2, half_words, sizeof half_words / sizeof *half_words};
 static const struct site pair = {"Each is at or above the other", pair_names, 2, pair_words, sizeof pair_words / sizeof *pair_words};
 
 /* A panel's ways are all of its ways: what is below the panel and beside two of three ways is the third, or below it. */
@@ -129,13 +134,11 @@ static void print_table(const struct site *s, const uint8_t *table)
     }
 }
 
-/* Closes a fresh table, searches it and checks what was found. Leaves the table. */
+/* Opens the table, whatever it holds, searches it and checks what was found. Leaves the table. */
 static void solve(const struct site *s, uint8_t *table)
 {
     uint8_t lent[TALUNG_MOST_CELLS];
     size_t cells = s->boards * s->boards;
-    uint64_t answer = talung_fresh(s->boards, table, cells);
-    assert(talung_number(answer) == TALUNG_OK);
     memcpy(lent, table, cells);
 
     printf("%s\n", s->title);
@@ -143,12 +146,12 @@ static void solve(const struct site *s, uint8_t *table)
     print_meaning(talung_read(s->words, s->n));
     printf("\n");
 
-    answer = talung_close(s->words, s->n, table, cells);
-    if (!refused("closing", answer, s, table, lent)) {
-        printf("  closing: good, relations struck: %u\n", (unsigned)talung_count(answer));
-        print_table(s, table);
-        memcpy(lent, table, cells);
-    }
+    uint64_t answer = talung_open(s->words, s->n, table, cells);
+    if (refused("opening", answer, s, table, lent))
+        return;
+    printf("  opening: good, relations struck: %u\n", (unsigned)talung_count(answer));
+    print_table(s, table);
+    memcpy(lent, table, cells);
 
     answer = talung_search(s->words, s->n, table, cells, BUDGET);
     if (refused("search", answer, s, table, lent))
@@ -156,6 +159,21 @@ static void solve(const struct site *s, uint8_t *table)
     printf("  search: good, tries made: %u\n", (unsigned)talung_count(answer));
     print_table(s, table);
     printf("  check: %s\n", meaning(talung_check(s->words, s->n, table, cells)));
+}
+
+/* Opens the table under the first lines, and closes it once all are known. The two together strike what one opening under all of them strikes. */
+static void in_stages(const struct site *first, const struct site *all, uint8_t *table)
+{
+    size_t cells = all->boards * all->boards;
+    uint64_t opened = talung_open(first->words, first->n, table, cells);
+    assert(talung_number(opened) == TALUNG_OK);
+    printf("%s\n", first->title);
+    printf("  opening: good, relations struck: %u\n", (unsigned)talung_count(opened));
+    print_table(first, table);
+    uint64_t closed = talung_close(all->words, all->n, table, cells);
+    assert(talung_number(closed) == TALUNG_OK);
+    printf("  closing with the other line too: good, relations struck: %u\n", (unsigned)talung_count(closed));
+    print_table(all, table);
 }
 
 /* Has a table checked in which p is beside q, and all else is as it was found. */
@@ -198,8 +216,9 @@ int main(void)
     static const char at_or_above[] = "boards 2\n0 same or above 1\n";
     static const char slip_of_the_key[] = "boards 2\n0 at or above 1\n";
     static const char slip_in_a_panel[] = "boards 3\n0 : 7 ( 1 3 )\n0 above 2\n";
-    uint8_t table[TALUNG_MOST_CELLS];
+    uint8_t table[TALUNG_MOST_CELLS] = {0}; /* holds what the site before has left: opening takes any contents */
     solve(&pair, table);
+    in_stages(&half, &pair, table);
     solve(&panel, table);
     propose_beside(&panel, table, 3, 4);
     solve(&crowded, table);

@@ -2,11 +2,10 @@
 
 use crate::arrangement::is_arrangement;
 use crate::closing::closed;
-use crate::description::{self, Description, Refusal, MOST_BOARDS};
+use crate::description::{self, Description, Refusal};
 use crate::drafts::Draft;
-use crate::relations::ALL;
 use crate::search::{self, Ending};
-use crate::table::Table;
+use crate::table::{check_number_of_cells, Table};
 use crate::typed;
 
 /// Number 0 is success, else the refusal number; the count is 0 unless said. Of a refusal of the description, 1 to 5
@@ -39,16 +38,11 @@ pub fn read(words: &[u16]) -> Answer {
     }
 }
 
-/// Fills the lent table with 15: 1 if V is out of range, then 6 if it has not V times V cells.
-pub fn fresh(v: u32, cells: &mut [u8]) -> Answer {
-    if v < 1 || v > MOST_BOARDS as u32 {
-        return refusal(1);
-    }
-    if cells.len() as u64 != v as u64 * v as u64 {
-        return refusal(6);
-    }
-    cells.fill(ALL);
-    success(0)
+/// The description, or the first refusal: 1 to 5, then 11, then 6 for the number of cells, whatever they hold.
+fn read_beside(words: &[u16], cells: &[u8]) -> Result<Description, Answer> {
+    let description = description::read(words)?;
+    check_number_of_cells(description.boards, cells).map_err(refusal)?;
+    Ok(description)
 }
 
 /// The description and the lent table, or the first refusal: 1 to 5, then 11, then 6.
@@ -58,14 +52,28 @@ fn read_both(words: &[u16], cells: &[u8]) -> Result<(Description, Table), Answer
     Ok((description, table))
 }
 
+/// Replaces the lent table, whatever it holds, by the largest closed one within the full table and counts the
+/// relations struck from the full one; 7 if that is contradictory.
+pub fn open(words: &[u16], cells: &mut [u8]) -> Answer {
+    match read_beside(words, cells) {
+        Ok(description) => put_closed(&description, &Table::full(description.boards), cells),
+        Err(refused) => refused,
+    }
+}
+
 /// Replaces the lent table by the largest closed one within it and counts the relations struck;
 /// 7 if that is contradictory.
 pub fn close(words: &[u16], cells: &mut [u8]) -> Answer {
-    let (description, table) = match read_both(words, cells) {
-        Ok(both) => both,
-        Err(refused) => return refused,
-    };
-    match closed(&description, &table) {
+    match read_both(words, cells) {
+        Ok((description, table)) => put_closed(&description, &table, cells),
+        Err(refused) => refused,
+    }
+}
+
+/// Puts the largest closed table within the table into the lent cells and counts the relations struck from the table.
+/// If that is contradictory, refuses with 7 and leaves the lent cells as they came.
+fn put_closed(description: &Description, table: &Table, cells: &mut [u8]) -> Answer {
+    match closed(description, table) {
         Some(closed) => {
             cells.copy_from_slice(&closed.cells);
             success(table.relations() - closed.relations())

@@ -7,7 +7,7 @@ use crate::printing;
 #[derive(Clone, Copy, PartialEq, Debug)]
 pub enum Call {
     Read,
-    Fresh,
+    Open,
     Close,
     Search,
     Check,
@@ -18,14 +18,14 @@ pub enum Call {
 
 /// The calls in the order of their numbers in the stream.
 pub const CALLS: [Call; 8] =
-    [Call::Read, Call::Fresh, Call::Close, Call::Search, Call::Check, Call::Site, Call::Typed, Call::Texted];
+    [Call::Read, Call::Open, Call::Close, Call::Search, Call::Check, Call::Site, Call::Typed, Call::Texted];
 
 impl Call {
     /// The first word of an answer to this call.
     pub fn name(self) -> &'static str {
         match self {
             Call::Read => "read",
-            Call::Fresh => "fresh",
+            Call::Open => "open",
             Call::Close => "close",
             Call::Search => "search",
             Call::Check => "check",
@@ -33,6 +33,11 @@ impl Call {
             Call::Typed => "typed",
             Call::Texted => "texted",
         }
+    }
+
+    /// Whether a case of this call has a lent table.
+    fn has_table(self) -> bool {
+        matches!(self, Call::Open | Call::Close | Call::Search | Call::Check)
     }
 
     /// Whether a case of this call has bytes where the others have words.
@@ -70,8 +75,8 @@ pub const MOST_CELLS: usize = 512;
 const OLD_WORD: u16 = 42_405;
 const OLD_BYTE: u8 = 165;
 
-/// One case: V for fresh, the budget for search and the length of the lent room for typed and texted
-/// stand in `number`.
+/// One case: the budget for search and the length of the lent room for typed and texted stand in `number`, which is 0
+/// for the others.
 #[derive(Clone, PartialEq)]
 pub struct Case {
     pub call: Call,
@@ -86,8 +91,8 @@ impl Case {
         Case { call: Call::Read, number: 0, words: words.to_vec(), bytes: Vec::new(), cells: Vec::new() }
     }
 
-    pub fn fresh(v: u32, cells: &[u8]) -> Case {
-        Case { call: Call::Fresh, number: v, words: Vec::new(), bytes: Vec::new(), cells: cells.to_vec() }
+    pub fn open(words: &[u16], cells: &[u8]) -> Case {
+        Case { call: Call::Open, cells: cells.to_vec(), ..Case::read(words) }
     }
 
     pub fn close(words: &[u16], cells: &[u8]) -> Case {
@@ -211,7 +216,7 @@ pub fn answered(case: &Case) -> Answered {
     let (mut word_room, mut byte_room) = (Vec::new(), Vec::new());
     let answer = match case.call {
         Call::Read => calls::read(&case.words),
-        Call::Fresh => calls::fresh(case.number, &mut cells),
+        Call::Open => calls::open(&case.words, &mut cells),
         Call::Close => calls::close(&case.words, &mut cells),
         Call::Search => calls::search(&case.words, &mut cells, case.number),
         Call::Check => calls::check(&case.words, &cells),
@@ -288,7 +293,6 @@ const MOST_SHOWN: usize = 3_000;
 pub fn readable(case: &Case) -> String {
     let mut text = String::from(case.call.name());
     match case.call {
-        Call::Fresh => text.push_str(&format!(" of {} boards", case.number)),
         Call::Search => text.push_str(&format!(" with budget {}", case.number)),
         Call::Typed => text.push_str(&format!(" into {} words", case.number)),
         Call::Texted => text.push_str(&format!(" into {} bytes", case.number)),
@@ -301,11 +305,11 @@ pub fn readable(case: &Case) -> String {
         _ => {}
     }
     let words = case.description_words();
-    if !matches!(case.call, Call::Fresh | Call::Typed) || !words.is_empty() {
+    if case.call != Call::Typed || !words.is_empty() {
         text.push_str(&format!("  {} words:{}\n", words.len(), numbers_text(&words)));
         text.push_str(&description_text(&words));
     }
-    if matches!(case.call, Call::Fresh | Call::Close | Call::Search | Call::Check) {
+    if case.call.has_table() {
         text.push_str(&format!("  {} cells:{}\n", case.cells.len(), numbers_text(&case.cells)));
     }
     text

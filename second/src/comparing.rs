@@ -5,6 +5,7 @@ use crate::cases::{answer_text, answered, readable, Answered, Call, Case, CALLS}
 use crate::description;
 use crate::making::Maker;
 use crate::relations::{converse, ALL};
+use crate::table::Table;
 use std::collections::HashSet;
 use std::io::{Read, Write};
 use std::process::{Command, Stdio};
@@ -28,6 +29,10 @@ pub struct Tally {
     not_full: usize,
     not_symmetric: usize,
     with_empty_cell: usize,
+    opened_above_15: usize,
+    opened_unchanged: usize,
+    contradictory_above_15: usize,
+    contradictory_refused_with_6: usize,
     rooms_just_enough: usize,
     rooms_one_too_small: usize,
     deepest_text: usize,
@@ -49,11 +54,30 @@ impl Tally {
         }
         let boards = boards_of(case);
         self.many_boards += (boards >= 12) as usize;
-        if matches!(case.call, Call::Close | Call::Search | Call::Check) {
-            self.count_table(boards, &case.cells);
+        match case.call {
+            Call::Open => self.count_opening(boards, case, answered),
+            Call::Close | Call::Search | Call::Check => self.count_table(boards, &case.cells),
+            Call::Typed | Call::Texted => self.count_text(case, answered),
+            Call::Read | Call::Site => {}
         }
-        if matches!(case.call, Call::Typed | Call::Texted) {
-            self.count_text(case, answered);
+    }
+
+    /// Counts an opening over a cell above 15, taken or refused with 7, one that is taken and changes nothing, and one
+    /// that is refused with 6 though its description is contradictory as well.
+    fn count_opening(&mut self, boards: usize, case: &Case, answered: &Answered) {
+        let above_15 = case.cells.iter().any(|&cell| cell > ALL);
+        let kept = answered.cells == case.cells;
+        match answered.answer.number {
+            0 => {
+                self.opened_above_15 += above_15 as usize;
+                self.opened_unchanged += kept as usize;
+            }
+            6 => {
+                let contradictory = calls::open(&case.words, &mut Table::full(boards).cells).number == 7;
+                self.contradictory_refused_with_6 += contradictory as usize;
+            }
+            7 => self.contradictory_above_15 += (above_15 && kept) as usize,
+            _ => {}
         }
     }
 
@@ -99,6 +123,10 @@ impl Tally {
             ("lent tables not full", self.not_full),
             ("lent tables not symmetric", self.not_symmetric),
             ("lent tables with an empty cell", self.with_empty_cell),
+            ("openings taken over a cell above 15", self.opened_above_15),
+            ("openings taken that change nothing", self.opened_unchanged),
+            ("openings refused with 7 that leave a cell above 15", self.contradictory_above_15),
+            ("openings refused with 6 that are contradictory too", self.contradictory_refused_with_6),
             ("lent rooms just long enough", self.rooms_just_enough),
             ("lent rooms one too small", self.rooms_one_too_small),
             ("deepest parentheses read", self.deepest_text),
@@ -116,7 +144,7 @@ fn row_text(name: &str, counts: &[usize]) -> String {
 
 /// Whether the count of an answer to the call with this number is a place in the words.
 fn tells_place(call: Call, number: u32) -> bool {
-    !matches!(call, Call::Fresh | Call::Site) && matches!(number, 1..=5 | 11)
+    call != Call::Site && matches!(number, 1..=5 | 11)
 }
 
 /// The column of a number; the last is for all that have none of their own, and for no number.
@@ -132,18 +160,9 @@ fn number_printed(printed: &str) -> Option<u32> {
     }
 }
 
-/// The boards of a good description or a fresh table that was in range; else 0.
+/// The boards of a good description; else 0.
 fn boards_of(case: &Case) -> usize {
-    match case.call {
-        Call::Fresh => {
-            if case.number <= 16 {
-                case.number as usize
-            } else {
-                0
-            }
-        }
-        _ => description::read(&case.description_words()).map_or(0, |description| description.boards),
-    }
+    description::read(&case.description_words()).map_or(0, |description| description.boards)
 }
 
 /// The length of the room that a good text or description needs.

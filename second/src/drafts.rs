@@ -106,6 +106,12 @@ impl Draft {
         counts
     }
 
+    /// The same boards with the first so many relation and kind lines alone.
+    pub fn first_lines(&self, relations: usize, kinds: usize) -> Draft {
+        let (relations, kinds) = (self.relations[..relations].to_vec(), self.kinds[..kinds].to_vec());
+        Draft { relations, kinds, ..Draft::of(self.boards) }
+    }
+
     /// The same description with each board renamed and with so many boards in all.
     pub fn renamed(&self, boards: usize, names: &[u16]) -> Draft {
         let name = |board: u16| names.get(board as usize).copied().unwrap_or(board);

@@ -1,13 +1,17 @@
 //! Cases by chance: a mix of all calls, of those about tables, or of those about texts.
 
 use crate::calls;
-use crate::cases::{little_endian_bytes, Case, MOST_SITE_BYTES};
+use crate::cases::{answered, little_endian_bytes, readable, Answered, Case, MOST_SITE_BYTES};
 use crate::chance::Chance;
+use crate::description::MOST_RELATION_LINES;
+use crate::drafts::Draft;
 use crate::forest::Forest;
+use crate::lent_tables::{any_contents, any_table, change_number, proposal, tries_allowed};
 use crate::printing::{BUDGET, MOST_BYTES};
 use crate::relations::{converse, ALL, SINGLES};
 use crate::sheets::{any_sheet, behind_loose_boards, few_boards, hard_sheet, Sheet};
 use crate::spoiling::mostly_refused;
+use crate::table::Table;
 use crate::texts::text_cases;
 
 /// The part of texts in a mix of all calls, in hundredths.
@@ -64,13 +68,14 @@ fn all_cases(chance: &mut Chance) -> Vec<Case> {
 
 /// One case or several that belong together; at times none, if a search would take long.
 fn table_cases(chance: &mut Chance) -> Vec<Case> {
-    match chance.below(111) {
+    match chance.below(124) {
         0..=20 => refused_cases(chance),
         21..=24 => vec![Case::read(&any_sheet(chance).draft.words())],
-        25..=28 => vec![fresh_case(chance)],
-        29..=55 => vec![close_case(chance)],
-        56..=80 => search_cases(chance),
-        81..=99 => vec![check_case(chance)],
+        25..=40 => vec![open_case(chance)],
+        41..=46 => staged_cases(chance),
+        47..=68 => vec![close_case(chance)],
+        69..=93 => search_cases(chance),
+        94..=112 => vec![check_case(chance)],
         _ => site_cases(chance),
     }
 }
@@ -80,45 +85,103 @@ fn refused_cases(chance: &mut Chance) -> Vec<Case> {
     let sheet = any_sheet(chance);
     let words = mostly_refused(chance, &sheet.draft);
     let boards = if chance.percent(50) { sheet.draft.boards } else { words.first().map_or(0, |&v| v.min(17) as usize) };
-    let cells = any_table(chance, &sheet, boards);
+    let cells =
+        if chance.percent(20) { any_contents(chance, &sheet, boards) } else { any_table(chance, &sheet, boards) };
     let budget = chance.below(200) as u32;
     if !ends_soon(&words, &cells, budget) {
         return Vec::new();
     }
-    match chance.below(10) {
-        0..=5 => vec![Case::read(&words)],
-        6 => vec![Case::close(&words, &cells)],
-        7 => vec![Case::search(&words, &cells, budget)],
-        8 => vec![Case::check(&words, &cells)],
-        _ => vec![Case::close(&words, &cells), Case::search(&words, &cells, budget), Case::check(&words, &cells)],
+    let (read, open, close) = (Case::read(&words), opening(&words, &cells), Case::close(&words, &cells));
+    let (search, check) = (Case::search(&words, &cells, budget), Case::check(&words, &cells));
+    match chance.below(12) {
+        0..=5 => vec![read],
+        6..=7 => vec![open],
+        8 => vec![close],
+        9 => vec![search],
+        10 => vec![check],
+        _ => vec![open, close, search, check],
     }
 }
 
-/// A fresh table: V in and out of range, with the right and a wrong number of cells.
-fn fresh_case(chance: &mut Chance) -> Case {
-    let far = [65_536, 65_537, 65_540, 1 << 31, u32::MAX - 1, u32::MAX];
-    let v = if chance.percent(85) { chance.below(21) as u32 } else { chance.pick(&far) };
-    let side = if v > 20 { chance.below(18) } else { v as usize };
-    let count = match chance.below(10) {
-        0..=6 => side * side,
-        7 => (side * side + 1).min(512),
-        8 => (side * side).saturating_sub(1),
-        _ => chance.below(260),
-    };
-    let limit = chance.pick(&[1, 16, 256]);
-    let cells: Vec<u8> = (0..count).map(|_| if limit == 1 { ALL } else { chance.below(limit) as u8 }).collect();
-    Case::fresh(v, &cells)
+/// The opening of a table of any contents. It answers as the closing of a full table of as many cells, and leaves what
+/// that leaves, or if refused the table as it came.
+pub fn opening(words: &[u16], cells: &[u8]) -> Case {
+    let (case, full) = (Case::open(words, cells), Case::close(words, &vec![ALL; cells.len()]));
+    let (opened, closed) = (answered(&case), answered(&full));
+    let left = if opened.answer.number == 0 { closed.cells } else { cells.to_vec() };
+    assert!(opened.answer == closed.answer && opened.cells == left, "{}differs from a full table", readable(&case));
+    case
+}
+
+/// A good description, at times contradictory, and a table of any contents, at times of a wrong number of cells.
+fn open_case(chance: &mut Chance) -> Case {
+    let sheet = any_sheet(chance);
+    let mut cells = any_contents(chance, &sheet, sheet.draft.boards);
+    let draft = if chance.percent(15) { contradictory(chance, sheet.draft) } else { sheet.draft };
+    if chance.percent(20) {
+        change_number(chance, &mut cells);
+    }
+    opening(&draft.words(), &cells)
+}
+
+/// The draft with a line whose set holds nothing that opening leaves in its cell.
+fn contradictory(chance: &mut Chance, mut draft: Draft) -> Draft {
+    draft.relations.truncate(MOST_RELATION_LINES as usize - 1);
+    let mut opened = Table::full(draft.boards);
+    calls::open(&draft.words(), &mut opened.cells);
+    let (p, q) = (chance.below(draft.boards), chance.below(draft.boards));
+    draft.within(p as u16, q as u16, ALL & !opened.at(p, q))
+}
+
+/// Two to four stages under more and more lines of a sheet.
+fn staged_cases(chance: &mut Chance) -> Vec<Case> {
+    let sheet = any_sheet(chance);
+    let cells = any_contents(chance, &sheet, sheet.draft.boards);
+    let all = (sheet.draft.relations.len(), sheet.draft.kinds.len());
+    let (mut relations, mut kinds) = (0, 0);
+    let mut lines = Vec::new();
+    for _ in 0..chance.between(1, 3) {
+        (relations, kinds) = (chance.between(relations, all.0), chance.between(kinds, all.1));
+        lines.push((relations, kinds));
+    }
+    lines.push(all);
+    stages(&sheet.draft, &lines, &cells)
+}
+
+/// The opening of a table under the first so many relation and kind lines, then closings under more of them and at
+/// last under all, each of the table that the stage before left, up to the first refusal.
+pub fn stages(draft: &Draft, lines: &[(usize, usize)], lent: &[u8]) -> Vec<Case> {
+    let mut cases = Vec::new();
+    let mut table = lent.to_vec();
+    for (stage, &(relations, kinds)) in lines.iter().enumerate() {
+        let words = draft.first_lines(relations, kinds).words();
+        let case = if stage == 0 { opening(&words, &table) } else { Case::close(&words, &table) };
+        let Answered { answer, cells, .. } = answered(&case);
+        cases.push(case);
+        if answer.number != 0 {
+            break;
+        }
+        table = cells;
+    }
+    assert_as_at_once(&cases, &opening(&draft.words(), lent));
+    cases
+}
+
+/// The stages strike together what opening under all lines strikes, and leave the same; or both are refused alike.
+fn assert_as_at_once(stages: &[Case], at_once: &Case) {
+    let opened = answered(at_once);
+    let (mut number, mut struck, mut cells) = (0, 0, Vec::new());
+    for stage in stages.iter().map(answered) {
+        (number, struck, cells) = (stage.answer.number, struck + stage.answer.count, stage.cells);
+    }
+    let as_much = number != 0 || (struck == opened.answer.count && cells == opened.cells);
+    assert!(number == opened.answer.number && as_much, "stages differ from {}", readable(at_once));
 }
 
 fn close_case(chance: &mut Chance) -> Case {
     let sheet = any_sheet(chance);
     let cells = any_table(chance, &sheet, sheet.draft.boards);
     Case::close(&sheet.draft.words(), &cells)
-}
-
-/// The most tries for which a search with so many boards is still fast.
-fn tries_allowed(boards: usize) -> u32 {
-    (8_000_000 / (boards * boards * boards).max(1)).clamp(1, 20_000) as u32
 }
 
 /// Whether the search with this budget needs no more tries than are allowed.
@@ -140,7 +203,7 @@ fn search_cases(chance: &mut Chance) -> Vec<Case> {
     let sheet = if hard { hard_sheet(chance) } else { any_sheet(chance) };
     let words = sheet.draft.words();
     let boards = sheet.draft.boards;
-    let cells = if hard && chance.percent(90) { vec![ALL; boards * boards] } else { any_table(chance, &sheet, boards) };
+    let cells = if hard && chance.percent(90) { Table::full(boards).cells } else { any_table(chance, &sheet, boards) };
     let most = tries_allowed(boards);
     let tries = match tries_needed(&words, &cells) {
         Some(tries) => tries,
@@ -173,20 +236,6 @@ fn check_case(chance: &mut Chance) -> Case {
         _ => cells = any_table(chance, &sheet, sheet.draft.boards),
     }
     Case::check(&sheet.draft.words(), &cells)
-}
-
-/// The hidden arrangement or the one found; if there is none, that of some forest.
-fn proposal(chance: &mut Chance, sheet: &Sheet) -> Vec<u8> {
-    let boards = sheet.draft.boards;
-    if let (Some(hidden), true) = (&sheet.hidden, chance.percent(50)) {
-        return hidden.clone();
-    }
-    let mut cells = vec![ALL; boards * boards];
-    let answer = calls::search(&sheet.draft.words(), &mut cells, tries_allowed(boards));
-    if answer.number != 0 {
-        return Forest::any(chance, boards).cells();
-    }
-    cells
 }
 
 /// Puts something else in one cell.
@@ -226,79 +275,6 @@ fn change_a_line(chance: &mut Chance, sheet: &mut Sheet) {
     }
 }
 
-/// A lent table for the sheet: full or not, symmetric or not, closed, decided, empty in places, or malformed.
-fn any_table(chance: &mut Chance, sheet: &Sheet, boards: usize) -> Vec<u8> {
-    let full = vec![ALL; boards * boards];
-    match chance.below(20) {
-        0..=6 => full,
-        7..=12 => around_hidden(chance, sheet, boards),
-        13 => full.iter().map(|_| chance.between(1, 15) as u8).collect(),
-        14..=15 => nearly_full(chance, full),
-        16 => closed_and_narrowed(chance, sheet, full),
-        17 => with_empty_cell(chance, sheet, boards),
-        18 => proposal(chance, sheet),
-        _ => malformed(chance, full),
-    }
-}
-
-/// Sets that hold the hidden arrangement (or that of some forest); the cell across is the converse,
-/// or another such set.
-fn around_hidden(chance: &mut Chance, sheet: &Sheet, boards: usize) -> Vec<u8> {
-    let hidden = match &sheet.hidden {
-        Some(hidden) if hidden.len() == boards * boards => hidden.clone(),
-        _ if boards > 0 => Forest::any(chance, boards).cells(),
-        _ => Vec::new(),
-    };
-    let mut cells: Vec<u8> = hidden.iter().map(|&relation| relation | chance.below(16) as u8).collect();
-    if chance.percent(50) {
-        for cell in 0..cells.len() {
-            cells[boards * (cell % boards) + cell / boards] = converse(cells[cell]);
-        }
-    }
-    cells
-}
-
-/// Full but for one or a few cells.
-fn nearly_full(chance: &mut Chance, mut cells: Vec<u8>) -> Vec<u8> {
-    for _ in 0..chance.between(1, 3) {
-        let at = chance.below(cells.len());
-        if let Some(cell) = cells.get_mut(at) {
-            *cell = chance.between(1, 14) as u8;
-        }
-    }
-    cells
-}
-
-/// The closed table, at times with one cell narrowed further.
-fn closed_and_narrowed(chance: &mut Chance, sheet: &Sheet, mut cells: Vec<u8>) -> Vec<u8> {
-    calls::close(&sheet.draft.words(), &mut cells);
-    let at = chance.below(cells.len());
-    if let (Some(cell), true) = (cells.get_mut(at), chance.percent(60)) {
-        *cell = chance.pick(&SINGLES);
-    }
-    cells
-}
-
-fn with_empty_cell(chance: &mut Chance, sheet: &Sheet, boards: usize) -> Vec<u8> {
-    let mut cells = around_hidden(chance, sheet, boards);
-    let at = chance.below(cells.len());
-    if let Some(cell) = cells.get_mut(at) {
-        *cell = 0;
-    }
-    cells
-}
-
-/// A cell above 15, or a wrong number of cells.
-fn malformed(chance: &mut Chance, mut cells: Vec<u8>) -> Vec<u8> {
-    let at = chance.below(cells.len());
-    match chance.below(4) {
-        0 | 1 if !cells.is_empty() => cells[at] = chance.pick(&[16, 17, 31, 128, 240, 255]),
-        2 => cells.push(ALL),
-        _ => drop(cells.pop()),
-    }
-    cells
-}
-
 /// An input of the program: mostly a good description; at times odd, refused or too long.
 fn site_cases(chance: &mut Chance) -> Vec<Case> {
     let sheet = any_sheet(chance);
@@ -316,7 +292,7 @@ fn site_cases(chance: &mut Chance) -> Vec<Case> {
         _ => {}
     }
     let boards = words.first().map_or(1, |&v| v.min(16) as usize);
-    if boards <= 9 || ends_soon(&words, &vec![ALL; boards * boards], BUDGET) {
+    if boards <= 9 || ends_soon(&words, &Table::full(boards).cells, BUDGET) {
         vec![Case::site(&bytes)]
     } else {
         Vec::new()

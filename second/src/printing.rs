@@ -1,7 +1,8 @@
 //! What the program prints for its input.
 
 use crate::calls;
-use crate::relations::{A, ALL, B, E, S};
+use crate::relations::{A, B, E, S};
+use crate::table::Table;
 
 /// The longest input taken: 2,486 words.
 pub const MOST_BYTES: usize = 4_972;
@@ -19,7 +20,7 @@ pub fn site(bytes: &[u8]) -> String {
         return format!("refused {}\n", refused.number);
     }
     let boards = words[0] as usize;
-    let mut cells = vec![ALL; boards * boards];
+    let mut cells = Table::full(boards).cells;
     let answer = calls::search(&words, &mut cells, BUDGET);
     if answer.number != 0 {
         return format!("refused {}\n", answer.number);

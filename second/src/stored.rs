@@ -4,15 +4,20 @@ use crate::calls::{self, Answer};
 use crate::cases::{little_endian_bytes, Case, MOST_SITE_BYTES};
 use crate::drafts::Draft;
 use crate::inputs::lengths;
-use crate::making::Maker;
+use crate::making::{opening, Maker};
 use crate::named::{good_drafts, refused_longest, refused_runs};
 use crate::relations::{converse, ALL, SINGLES};
+use crate::stored_openings::{self, opening_with, rising};
 use crate::stored_places;
 use crate::stored_texts;
+use crate::table::Table;
 
 /// The cases made after the fixed ones, and their seed.
-const MADE: usize = 5_000;
+const MADE: usize = 5_600;
 const SEED: u64 = 2_486;
+
+/// A description of more words than this is stored with few calls.
+const LONG: usize = 200;
 
 /// All stored cases, in order.
 pub fn all() -> Vec<Case> {
@@ -27,9 +32,9 @@ pub fn all() -> Vec<Case> {
     let inputs = lengths().into_iter().filter(|(_, bytes)| bytes.len() <= MOST_SITE_BYTES);
     cases.extend(inputs.map(|(_, bytes)| Case::site(&bytes)));
     cases.extend(wrong_tables());
-    cases.extend(fresh_tables());
+    cases.extend(stored_openings::all());
     cases.extend(very_long_runs());
-    cases.extend(refused_longest().iter().map(|(_, words, ..)| Case::read(words)));
+    cases.extend(refused_longest_runs());
     let mut maker = Maker::of_tables(SEED);
     cases.extend((0..MADE).map(|_| maker.next_case()));
     cases.extend(stored_texts::all());
@@ -63,7 +68,8 @@ fn triangles() -> Vec<Case> {
     cases
 }
 
-/// All expressions of one, two and three words, good and refused, and some of up to 16 words.
+/// All expressions of one, two and three words, good and refused, and some of up to 16 words, opened over old contents
+/// in turn, and some of them closed.
 fn expressions() -> Vec<Case> {
     let mut all: Vec<Vec<u16>> = (0..=8).map(|code| vec![code]).collect();
     for first in 0..=8 {
@@ -83,8 +89,16 @@ fn expressions() -> Vec<Case> {
         all.push([[4, 1].repeat(pairs), vec![3]].concat());
         all.push([[5, 6].repeat(pairs), vec![2; pairs + 1]].concat());
     }
-    let words = |expression: &Vec<u16>| Draft::of(2).line(0, 1, expression).words();
-    all.iter().map(|expression| Case::close(&words(expression), &[ALL; 4])).collect()
+    let contents = [[0; 4], [ALL; 4], [255; 4], [1, 3, 5, 1], [16, 0, 2, 8]];
+    let mut cases = Vec::new();
+    for (at, expression) in all.iter().enumerate() {
+        let words = Draft::of(2).line(0, 1, expression).words();
+        cases.push(opening(&words, &contents[at % contents.len()]));
+        if at % 4 == 0 {
+            cases.push(Case::close(&words, &[ALL; 4]));
+        }
+    }
+    cases
 }
 
 /// Two kind lines with each pair of numbers of ways, of one code and of codes that differ in a bit.
@@ -118,15 +132,16 @@ fn short_lists() -> Vec<Case> {
     cases
 }
 
-/// Every call of a good description: a full table, budgets around the tries, its arrangement and near ones.
+/// Every call of a good description: a full table, old contents, budgets around the tries, its arrangement and near
+/// ones.
 fn calls_of_draft(draft: &Draft) -> Vec<Case> {
     let words = draft.words();
-    let full = vec![ALL; draft.boards * draft.boards];
+    let full = Table::full(draft.boards).cells;
     let mut found = full.clone();
     let answer = calls::search(&words, &mut found, 20_000);
     let mut cases = vec![Case::read(&words), Case::close(&words, &full), Case::site(&little_endian_bytes(&words))];
     let tries = answer.count;
-    let mut budgets = if words.len() > 200 { vec![] } else { vec![0, 1, tries + 1, 10_000] };
+    let mut budgets = if words.len() > LONG { vec![] } else { vec![0, 1, tries + 1, 10_000] };
     budgets.extend([tries.saturating_sub(1), tries]);
     budgets.sort();
     budgets.dedup();
@@ -136,8 +151,9 @@ fn calls_of_draft(draft: &Draft) -> Vec<Case> {
     }
     let mut closed = full.clone();
     calls::close(&words, &mut closed);
+    cases.extend(over_old_contents(&words, &closed, &found));
     cases.extend([Case::close(&words, &closed), Case::check(&words, &full), Case::check(&words, &found)]);
-    let changes = if words.len() > 200 { 2 } else { 16 };
+    let changes = if words.len() > LONG { 2 } else { 16 };
     for at in 0..found.len().min(changes) {
         let mut changed = found.clone();
         changed[at] = SINGLES[at % 4];
@@ -147,20 +163,32 @@ fn calls_of_draft(draft: &Draft) -> Vec<Case> {
     cases
 }
 
-/// Every call of a refused description, with a full table and with one that is malformed too.
+/// A good description opened over old contents of several sorts, among them its closed table and an arrangement, and
+/// with one cell too many; a long description over few of them.
+fn over_old_contents(words: &[u16], closed: &[u8], found: &[u8]) -> Vec<Case> {
+    let right = closed.len();
+    let mut contents = vec![rising(right), rising(right + 1), vec![ALL; right], vec![0; right], vec![255; right]];
+    contents.extend([closed.to_vec(), found.to_vec()]);
+    contents.truncate(if words.len() > LONG { 3 } else { 7 });
+    contents.iter().map(|cells| opening(words, cells)).collect()
+}
+
+/// Every call of a refused description, with a full table and with one that is malformed too; opened with the right
+/// number of cells and with one more.
 fn calls_of_refused(words: &[u16]) -> Vec<Case> {
     let boards = words.first().map_or(2, |&v| v.min(20) as usize);
-    let full = vec![ALL; boards * boards];
+    let full = Table::full(boards).cells;
     let malformed = [16];
     let mut cases = vec![Case::read(words), Case::site(&little_endian_bytes(words))];
     for cells in [&full[..], &malformed[..]] {
         cases.extend([Case::close(words, cells), Case::search(words, cells, 5), Case::check(words, cells)]);
     }
+    cases.extend([0, 1].map(|more| opening(words, &rising(full.len() + more))));
     cases
 }
 
 /// Tables of a wrong number of cells, with a cell above 15, with an empty cell, not symmetric, and an arrangement,
-/// for a loose, a contradictory, a decided and a disagreeing description.
+/// for a loose, a contradictory, a decided and a disagreeing description. Opening takes all that have nine cells.
 fn wrong_tables() -> Vec<Case> {
     let loose = Draft::of(3);
     let contradictory = Draft::of(3).kind(0, 5, &[1, 1]);
@@ -178,28 +206,14 @@ fn wrong_tables() -> Vec<Case> {
     tables.push(vec![1; 9]);
     tables.push(vec![1, 2, 2, 4, 1, 8, 4, 8, 1]);
     let mut cases = Vec::new();
-    for draft in [loose, contradictory, decided, disagreeing] {
+    for (draft, number, count) in [(loose, 0, 9), (contradictory, 7, 0), (decided, 0, 27), (disagreeing, 11, 13)] {
         let words = draft.words();
         for cells in &tables {
+            let wrong_number = cells.len() != 9 && number != 11;
+            let answer = if wrong_number { Answer { number: 6, count: 0 } } else { Answer { number, count } };
+            cases.push(opening_with(&words, cells, answer));
             cases.extend([Case::close(&words, cells), Case::search(&words, cells, 3), Case::check(&words, cells)]);
         }
-    }
-    cases
-}
-
-/// Fresh tables for V from 0 to 20 and far out of range, with right and wrong numbers of cells.
-fn fresh_tables() -> Vec<Case> {
-    let mut cases = Vec::new();
-    for v in 0..=20u32 {
-        let right = (v * v) as usize;
-        let old: Vec<u8> = (0..=right).map(|at| (at % 256) as u8).collect();
-        cases.push(Case::fresh(v, &old[..right]));
-        cases.push(Case::fresh(v, &old));
-        cases.push(Case::fresh(v, &old[..right.saturating_sub(1)]));
-        cases.push(Case::fresh(v, &vec![ALL; right]));
-    }
-    for v in [17, 256, 65_535, 65_536, 65_537, 65_540, 1 << 31, u32::MAX - 1, u32::MAX] {
-        cases.extend([0, 1, 16].map(|count| Case::fresh(v, &vec![7; count])));
     }
     cases
 }
@@ -209,5 +223,15 @@ fn very_long_runs() -> Vec<Case> {
     let mut words = Draft::of(1).words();
     words.resize(65_542, 0);
     assert!(calls::read(&words) == Answer { number: 2, count: 5 });
-    vec![Case::read(&words), Case::check(&words, &[1])]
+    vec![Case::read(&words), opening_with(&words, &[1], Answer { number: 2, count: 5 })]
+}
+
+/// The longest description made wrong, read and opened in turn.
+fn refused_longest_runs() -> Vec<Case> {
+    let mut cases = Vec::new();
+    for (at, (_, words, number, count)) in refused_longest().into_iter().enumerate() {
+        let answer = Answer { number, count };
+        cases.push(if at % 2 == 0 { Case::read(&words) } else { opening_with(&words, &rising(256), answer) });
+    }
+    cases
 }

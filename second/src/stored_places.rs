@@ -4,6 +4,7 @@ use crate::calls::{self, Answer};
 use crate::cases::Case;
 use crate::description::meaning;
 use crate::drafts::Draft;
+use crate::making::opening;
 use crate::named::{refused_longest, refused_runs};
 use crate::named_places::{between_lines, refused_places};
 use crate::relations::ALL;
@@ -18,11 +19,12 @@ pub fn all() -> Vec<Case> {
     cases
 }
 
-/// Checks what the named runs are refused with, and where.
+/// Checks what the named runs are refused with, and where, whether they are read or opened without any cells.
 fn assert_places() {
     for (name, words, number, place) in [refused_runs(), refused_places(), refused_longest()].concat() {
-        let refused = calls::read(&words);
-        assert!(refused == Answer { number, count: place }, "{name} is refused with {refused:?}");
+        for refused in [calls::read(&words), calls::open(&words, &mut [])] {
+            assert!(refused == Answer { number, count: place }, "{name} is refused with {refused:?}");
+        }
     }
 }
 
@@ -32,11 +34,12 @@ fn calls_of_places() -> Vec<Case> {
     let tables = [vec![16], vec![], vec![ALL, 3, 8, ALL], vec![1; 17]];
     let mut cases = Vec::new();
     for (at, (_, words, ..)) in refused_places().iter().enumerate() {
-        let cells = &tables[at / 3 % tables.len()];
+        let cells = &tables[at / 4 % tables.len()];
         cases.push(Case::read(words));
-        cases.push(match at % 3 {
-            0 => Case::close(words, cells),
-            1 => Case::search(words, cells, 5),
+        cases.push(match at % 4 {
+            0 => opening(words, cells),
+            1 => Case::close(words, cells),
+            2 => Case::search(words, cells, 5),
             _ => Case::check(words, cells),
         });
     }

@@ -9,9 +9,15 @@ pub struct Table {
 }
 
 impl Table {
+    /// The full table: all four relations in every cell.
+    pub fn full(boards: usize) -> Table {
+        Table { boards, cells: vec![ALL; boards * boards] }
+    }
+
     /// The lent cells as a table; refusal 6 if there are not V times V cells, or a cell is above 15.
     pub fn lent(boards: usize, cells: &[u8]) -> Result<Table, u32> {
-        if cells.len() != boards * boards || cells.iter().any(|&cell| cell > ALL) {
+        check_number_of_cells(boards, cells)?;
+        if cells.iter().any(|&cell| cell > ALL) {
             return Err(6);
         }
         Ok(Table { boards, cells: cells.to_vec() })
@@ -55,5 +61,14 @@ impl Table {
             }
         }
         None
+    }
+}
+
+/// Refusal 6: there are not V times V cells, whatever they hold.
+pub fn check_number_of_cells(boards: usize, cells: &[u8]) -> Result<(), u32> {
+    if cells.len() == boards * boards {
+        Ok(())
+    } else {
+        Err(6)
     }
 }

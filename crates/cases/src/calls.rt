@@ -8,8 +8,8 @@ pub(crate) fn read(words: &[u16]) {
     say_end();
 }
 
-pub(crate) fn fresh(boards: u32, lent: &[u8], cells: &mut [u8]) {
-    say_answer(b"fresh ", talung::talung_fresh(boards, cells));
+pub(crate) fn open(words: &[u16], lent: &[u8], cells: &mut [u8]) {
+    say_answer(b"open ", talung::talung_open(words, cells));
     say_table(lent, cells);
 }
 

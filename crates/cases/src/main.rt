@@ -1,8 +1,8 @@
 // Runs the cases on standard input, one after the other, and writes what each call answers and leaves.
 //
 // A case begins with four numbers of 32 bits: its call, a number, how many words and how many cells it has; then come the words, of 16 bits, and the
-// cells, of a byte. All numbers are little-endian. The number is that of boards for a fresh table, the budget for a search, and how much room is lent to a
-// text call. A case of the program, and one that reads a text, has bytes for words. The run ends with the input, or at a case that is cut off or too large.
+// cells, of a byte. All numbers are little-endian. The number is the budget for a search, and how much room is lent to a text call. A case of the program, and
+// one that reads a text, has bytes for words. The run ends with the input, or at a case that is cut off or too large.
 mod calls;
 mod fronts;
 mod says;
@@ -20,8 +20,8 @@ use libc::STDIN_FILENO;
 // The call that reads a description.
 const READ: u32 = 0;
 
-// The call that makes a fresh table.
-const FRESH: u32 = 1;
+// The call that opens a table.
+const OPEN: u32 = 1;
 
 // The call that closes a table.
 const CLOSE: u32 = 2;
@@ -52,8 +52,8 @@ fn make(call: u32, number: u32, words: &[u16], lent: &[u8], cells: &mut [u8]) {
     if call == READ {
         return calls::read(words);
     }
-    if call == FRESH {
-        return calls::fresh(number, lent, cells);
+    if call == OPEN {
+        return calls::open(words, lent, cells);
     }
     if call == CLOSE {
         return calls::close(words, lent, cells);

@@ -9,7 +9,7 @@ use Rattle.rules.specs.Relations.{full}
 use Rattle.rules.specs.Descriptions.{Sheet, WellFormed}
 use Rattle.rules.specs.Arrangements.{Arrangement}
 use Rattle.rules.specs.Search.{Nowhere}
-use Rattle.boards.proofs.Made.{inside-full}
+use Rattle.rules.proofs.Full.{inside-full}
 use Rattle.clauses.specs.Clauses.{Description, sheet, Solves, Unsolvable}
 use Rattle.clauses.proofs.Solutions.{published-arrangement, chooses-some}
 use Rattle.clauses.proofs.Rendered.{arrangement-published, arrangement-iff-published}

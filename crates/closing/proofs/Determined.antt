@@ -23,6 +23,8 @@ use Rattle.closing.proofs.close_cells.Kinds as close-cells-kinds
 use Rattle.closing.proofs.close_cells.Reads as close-cells
 use Rattle.closing.proofs.close_table.Kinds as table-kinds
 use Rattle.closing.proofs.close_table.Reads as table
+use Rattle.closing.proofs.open_table.Kinds as open-table-kinds
+use Rattle.closing.proofs.open_table.Reads as open-table
 use Rattle.closing.proofs.close_again.Kinds as again-kinds
 use Rattle.closing.proofs.close_again.Reads as again
 
@@ -63,3 +65,6 @@ close-again-determined κs a asked x y d e =
 
 pub close-table-determined : OneOutcome 2 table-kinds.ps table-kinds.r table.Asked table.Learnt (λ κs e. e .1 .1 .0 .now)
 close-table-determined κs a asked x y d e p q = outcome-determined x y (d .1 .1 .0 .now) (e .1 .1 .0 .now) (p ∙ sym q)
+
+pub open-table-determined : OneOutcome 2 open-table-kinds.ps open-table-kinds.r open-table.Asked open-table.Learnt (λ κs e. e .1 .1 .0 .now)
+open-table-determined κs a asked x y d e p q = outcome-determined x y (d .1 .1 .0 .now) (e .1 .1 .0 .now) (p ∙ sym q)

@@ -1,12 +1,16 @@
 -- What closing a working copy of a table comes to. Assumes nothing.
 use mathlib.Core.Path.{_≡_}
 use mathlib.Core.List.{List, _++_}
-use Prim.Native.Nat.{ℕ, _+_}
+use Prim.Native.Nat.{ℕ, _+_, _*_}
 use lib.Dec.{T}
+use lib.ListN.{length}
 use Rattle.rules.specs.Descriptions.{Sheet, good, read}
 use Rattle.rules.specs.Tables.{Inside, emptied, total}
 use Rattle.rules.specs.Closed.{Largest}
 use Rattle.rules.specs.Closing.{Rule, rules1, rules4, rules5, closing}
+use Rattle.rules.specs.Calls.{closeInto}
+use Rattle.answers.specs.declared.Answer.{Answer}
+use Rattle.answers.specs.Answers.{outcome}
 use Rattle.passes.specs.Passes.{Filled, Idles, Ready, Once}
 use Rattle.headers.specs.declared.Header.{Header}
 use Rattle.headers.specs.declared.HeaderFound.the-variants.{Good}
@@ -36,6 +40,15 @@ closes s t w Emptied = T (emptied (closing s t))
 -- what a closing comes to under the description that the words mean
 abbrev pub ClosesUnder : List ℕ → List ℕ → List ℕ → Swept → Type 0
 ClosesUnder ws t w r = (s : Sheet) → read ws ≡ good s → closes s t w r
+
+-- the table t, closed into the lent one l under the description that the words mean, may be answered with a and leave w
+abbrev pub ClosedInto : List ℕ → List ℕ → List ℕ → List ℕ → Answer → Type 0
+ClosedInto ws t l w a = (s : Sheet) → read ws ≡ good s → outcome a w ≡ closeInto l s t
+
+-- the header is that of a good description, and the table has as many cells as its boards need, whatever they hold
+pub record Measured (h : Header) (ws t : List ℕ) : Type 0 where
+  pub header : Good h ≡ descriptionFound ws
+  pub cells : length t ≡ h .boards * h .boards
 
 -- the header is that of a good description, and the table is well-formed for its boards
 pub record Admitted (h : Header) (ws t : List ℕ) : Type 0 where

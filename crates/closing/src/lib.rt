@@ -1,9 +1,9 @@
 // Closing under a description that was read: first the rules that need no second look (1, 4 and 5), then rounds of the others.
 ghost use mathlib.Core.Path.{_≡_};
 ghost use lib.ListN.{length};
-ghost use Rattle.rules.specs.Calls.{close};
+ghost use Rattle.rules.specs.Calls.{opening, close};
 ghost use Rattle.answers.specs.Answers.{outcome};
-ghost use Rattle.closing.specs.Closes.{Admitted, OnceUnder, ClosesUnder, Steady};
+ghost use Rattle.closing.specs.Closes.{Admitted, Measured, OnceUnder, ClosesUnder, ClosedInto, Steady};
 use answers::Answer;
 use answers::limits::HEADER_WORDS;
 use answers::refusals::CONTRADICTORY;
@@ -11,6 +11,7 @@ use answers::refuse;
 use answers::rooms::table_room;
 use answers::succeed;
 use headers::Header;
+use relations::full_room;
 use sweeps::Swept;
 
 // Follows rules 1, 4 and 5, which need no second look, and says how many relations they struck.
@@ -49,17 +50,26 @@ pub fn close_cells(h: Header, words: &[u16], cells: &mut [u8]) -> Swept
     Swept::Struck(struck)
 }
 
+// Closes working cells, and then copies them to the table; or refuses with 7 where their largest closed table has an empty cell, and leaves the table as it
+// came.
+fn close_into(h: Header, words: &[u16], cells: &mut [u8], table: &mut [u8]) -> Answer
+    requires { ⌜ Admitted h (now words) (now cells) × (length (now table) ≡ length (now cells)) ⌝ }
+    ensures { λ a. ⌜ ClosedInto (now (words .entry)) (now (cells .entry)) (now (table .entry)) (now (table .exit)) a ⌝ }
+{
+    let Swept::Struck(struck) = close_cells(h, words, cells) else {
+        return refuse(CONTRADICTORY, 0);
+    };
+    tables::copy(cells, table);
+    succeed(struck)
+}
+
 // Closes the table by a working copy of it, so that a refusal leaves the table as it came.
 fn close_by_copy(h: Header, words: &[u16], table: &mut [u8], cells: &mut [u8]) -> Answer
     requires { ⌜ Admitted h (now words) (now table) × (length (now cells) ≡ length (now table)) ⌝ }
     ensures { λ a. ⌜ outcome a (now (table .exit)) ≡ close (now (words .entry)) (now (table .entry)) ⌝ }
 {
     tables::copy(table, cells);
-    let Swept::Struck(struck) = close_cells(h, words, cells) else {
-        return refuse(CONTRADICTORY, 0);
-    };
-    tables::copy(cells, table);
-    succeed(struck)
+    close_into(h, words, cells, table)
 }
 
 // Replaces a table that was admitted by the largest closed table inside it, and answers how many relations that struck. Refuses with 7 where the
@@ -71,4 +81,16 @@ pub fn close_table(h: Header, words: &[u16], table: &mut [u8]) -> Answer
     let n = table.len();
     let mut room = table_room();
     close_by_copy(h, words, table, &mut room[..n])
+}
+
+// Replaces a table, whatever it holds, by the largest closed table inside the full one, and answers how many relations that struck from the full one. Refuses
+// with 7 where the largest closed table has an empty cell, and then leaves the table as it came.
+pub fn open_table(h: Header, words: &[u16], table: &mut [u8]) -> Answer
+    requires { ⌜ Measured h (now words) (now table) ⌝ }
+    ensures { λ a. ⌜ outcome a (now (table .exit)) ≡ opening (now (words .entry)) (now (table .entry)) ⌝ }
+{
+    let n = table.len();
+    let mut room = full_room();
+    let full = &mut room[..n];
+    close_into(h, words, full, table)
 }

@@ -26,11 +26,11 @@ use Rattle.rules.proofs.Descriptions.{meant-out, read-wellFormed}
 use Rattle.meanings.proofs.Sheets.{typed-made}
 use Rattle.answers.specs.declared.Answer.{Answer}
 use Rattle.answers.proofs.Outcomes.{says}
-use Rattle.demands.specs.Entries.{Reads, Call, ReadingText, WritingText}
+use Rattle.demands.specs.Entries.{Reads, AnyCall, ReadingText, WritingText}
 use Rattle.demands.specs.Sentences.{TableCall}
 use Rattle.demands.specs.Texts.{RoomCall}
 use Rattle.demands.specs.Arities.{Disagreeing, Disagree, OneNumberOfWays}
-use Rattle.demands.proofs.Refusing.{reading-refused, call-gives, gives-description, gives-eleven}
+use Rattle.demands.proofs.Refusing.{reading-refused, any-gives, gives-description, gives-eleven}
 use Rattle.demands.proofs.Rooms.{ends-number, writer-ends, reader-ends}
 
 -- ---- the lines
@@ -143,15 +143,15 @@ by-code k l h = (go (eqb (k .code) (l .code)) refl, (λ a. a .0, λ e. (e, h e))
     go true e = eq-eqb (width k) (width l) (h (eqb-true (k .code) (l .code) e))
     go false e = refl
 
--- Request 2, of the reader, the calls that close, search and check, and the two text calls.
-pub one-number-of-ways : OneNumberOfWays Reads Call ReadingText WritingText
+-- Request 2, of the reader, the calls that open, close, search and check, and the two text calls.
+pub one-number-of-ways : OneNumberOfWays Reads AnyCall ReadingText WritingText
 one-number-of-ways =
     record {
       told-exactly = λ ws a call.
           let n : a .number ≡ reading ws .number = says call in
           Iff·trans (λ e. sym n ∙ e, λ e. n ∙ e) (Iff·trans (reading-eleven ws) (eleven-exactly ws));
       refused-exactly = λ ws t a w call.
-          let g = call-gives ws t a w call in
+          let g = any-gives ws t a w call .1 in
           Iff·trans (gives-eleven ws t a w g, λ (k, e). gives-description ws t a w g 11 k e .number) (eleven-exactly ws);
       text-refused-exactly = λ text ws t room a w call. Iff·trans (ends-number (reader-ends text (typed-made t) call) 11 tt) (eleven-exactly ws);
       writer-refused-exactly = λ ws room a w call. Iff·trans (ends-number (writer-ends ws call) 11 tt) (eleven-exactly ws);

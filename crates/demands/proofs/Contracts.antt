@@ -5,22 +5,22 @@ use Rattle.rules.specs.Search.{plainOrder}
 use Rattle.contracts.specs.Contracts.{AsksNothing, Teaches}
 use Rattle.talung.specs.Packed.{unpack}
 use Rattle.talung.proofs.Packing.{unpacks}
-use Rattle.talung.proofs.Numbers.{reading-numbered, fresh-numbered, close-numbered, searching-numbered, check-numbered}
+use Rattle.talung.proofs.Numbers.{reading-numbered, opening-numbered, close-numbered, searching-numbered, check-numbered}
 use Rattle.listing.specs.Listings.{inputLine, listing as prints}
 use Rattle.listing.specs.Pages.{page}
-use Rattle.solver.proofs.Determined.{read-asks-nothing, fresh-asks-nothing, close-asks-nothing, search-asks-nothing, check-asks-nothing}
+use Rattle.solver.proofs.Determined.{read-asks-nothing, open-asks-nothing, close-asks-nothing, search-asks-nothing, check-asks-nothing}
 use Rattle.reading.proofs.Determined.{from-text-asks-nothing}
 use Rattle.writing.proofs.Determined.{to-text-asks-nothing}
-use Rattle.talung.proofs.Determined.{talung-read-asks-nothing, talung-fresh-asks-nothing, talung-close-asks-nothing, talung-search-asks-nothing, talung-check-asks-nothing, talung-from-text-asks-nothing, talung-to-text-asks-nothing}
+use Rattle.talung.proofs.Determined.{talung-read-asks-nothing, talung-open-asks-nothing, talung-close-asks-nothing, talung-search-asks-nothing, talung-check-asks-nothing, talung-from-text-asks-nothing, talung-to-text-asks-nothing}
 use Rattle.listing.proofs.Determined.{listing-asks-nothing, unread-asks-nothing}
 use Rattle.solver.proofs.read.Kinds as read-kinds
 use Rattle.solver.proofs.read.Reads as read
 use Rattle.solver.proofs.read.Statement as read-stated
 use Rattle.solver.proofs.read.Met as read-met
-use Rattle.solver.proofs.fresh.Kinds as fresh-kinds
-use Rattle.solver.proofs.fresh.Reads as fresh
-use Rattle.solver.proofs.fresh.Statement as fresh-stated
-use Rattle.solver.proofs.fresh.Met as fresh-met
+use Rattle.solver.proofs.«open».Kinds as open-kinds
+use Rattle.solver.proofs.«open».Reads as opens
+use Rattle.solver.proofs.«open».Statement as open-stated
+use Rattle.solver.proofs.«open».Met as open-met
 use Rattle.solver.proofs.close.Kinds as close-kinds
 use Rattle.solver.proofs.close.Reads as close
 use Rattle.solver.proofs.close.Statement as close-stated
@@ -45,10 +45,10 @@ use Rattle.talung.proofs.talung_read.Kinds as c-read-kinds
 use Rattle.talung.proofs.talung_read.Reads as c-read
 use Rattle.talung.proofs.talung_read.Statement as c-read-stated
 use Rattle.talung.proofs.talung_read.Met as c-read-met
-use Rattle.talung.proofs.talung_fresh.Kinds as c-fresh-kinds
-use Rattle.talung.proofs.talung_fresh.Reads as c-fresh
-use Rattle.talung.proofs.talung_fresh.Statement as c-fresh-stated
-use Rattle.talung.proofs.talung_fresh.Met as c-fresh-met
+use Rattle.talung.proofs.talung_open.Kinds as c-open-kinds
+use Rattle.talung.proofs.talung_open.Reads as c-open
+use Rattle.talung.proofs.talung_open.Statement as c-open-stated
+use Rattle.talung.proofs.talung_open.Met as c-open-met
 use Rattle.talung.proofs.talung_close.Kinds as c-close-kinds
 use Rattle.talung.proofs.talung_close.Reads as c-close
 use Rattle.talung.proofs.talung_close.Statement as c-close-stated
@@ -77,7 +77,7 @@ use Rattle.listing.proofs.unread.Kinds as unread-kinds
 use Rattle.listing.proofs.unread.Reads as unread
 use Rattle.listing.proofs.unread.Statement as unread-stated
 use Rattle.listing.proofs.unread.Met as unread-met
-use Rattle.demands.specs.Entries.{Reads, Freshens, Closing, Searching, Checking, ReadingText, WritingText}
+use Rattle.demands.specs.Entries.{Reads, Opening, Closing, Searching, Checking, ReadingText, WritingText}
 use Rattle.demands.proofs.Rooms.{from-text-few, to-text-few}
 
 -- ---- whatever is lent
@@ -85,7 +85,7 @@ use Rattle.demands.proofs.Rooms.{from-text-few, to-text-few}
 -- Every entry point takes whatever it is lent, ends, and does nothing undefined: its contract asks nothing of the caller, and its code meets it.
 pub every-entry-point : {M : Type 1}
     → (AsksNothing 1 read-kinds.ps read.Asked × read-stated.statement M)
-    × (AsksNothing 1 fresh-kinds.ps fresh.Asked × fresh-stated.statement M)
+    × (AsksNothing 2 open-kinds.ps opens.Asked × open-stated.statement M)
     × (AsksNothing 2 close-kinds.ps close.Asked × close-stated.statement M)
     × (AsksNothing 2 search-kinds.ps search.Asked × search-stated.statement M)
     × (AsksNothing 2 check-kinds.ps check.Asked × check-stated.statement M)
@@ -93,7 +93,7 @@ pub every-entry-point : {M : Type 1}
     × (AsksNothing 2 to-text-kinds.ps to-text.Asked × to-text-stated.statement M)
 every-entry-point = (
   (read-asks-nothing, read-met.met),
-  (fresh-asks-nothing, fresh-met.met),
+  (open-asks-nothing, open-met.met),
   (close-asks-nothing, close-met.met),
   (search-asks-nothing, search-met.met),
   (check-asks-nothing, check-met.met),
@@ -104,7 +104,7 @@ every-entry-point = (
 -- So does every call for C,
 pub every-call-for-c : {M : Type 1}
     → (AsksNothing 1 c-read-kinds.ps c-read.Asked × c-read-stated.statement M)
-    × (AsksNothing 1 c-fresh-kinds.ps c-fresh.Asked × c-fresh-stated.statement M)
+    × (AsksNothing 2 c-open-kinds.ps c-open.Asked × c-open-stated.statement M)
     × (AsksNothing 2 c-close-kinds.ps c-close.Asked × c-close-stated.statement M)
     × (AsksNothing 2 c-search-kinds.ps c-search.Asked × c-search-stated.statement M)
     × (AsksNothing 2 c-check-kinds.ps c-check.Asked × c-check-stated.statement M)
@@ -112,7 +112,7 @@ pub every-call-for-c : {M : Type 1}
     × (AsksNothing 2 c-to-text-kinds.ps c-to-text.Asked × c-to-text-stated.statement M)
 every-call-for-c = (
   (talung-read-asks-nothing, c-read-met.met),
-  (talung-fresh-asks-nothing, c-fresh-met.met),
+  (talung-open-asks-nothing, c-open-met.met),
   (talung-close-asks-nothing, c-close-met.met),
   (talung-search-asks-nothing, c-search-met.met),
   (talung-check-asks-nothing, c-check-met.met),
@@ -134,8 +134,8 @@ every-page = (
 pub read-learnt : Teaches 1 read-kinds.ps read-kinds.r read.Learnt (λ κs a x e. Reads (a .0 .now) x)
 read-learnt κs a x e h = h
 
-pub fresh-learnt : Teaches 1 fresh-kinds.ps fresh-kinds.r fresh.Learnt (λ κs a x e. Freshens (a .0) (a .1 .0 .now) x (e .1 .0 .now))
-fresh-learnt κs a x e h = h
+pub open-learnt : Teaches 2 open-kinds.ps open-kinds.r opens.Learnt (λ κs a x e. Opening (a .0 .now) (a .1 .0 .now) x (e .1 .0 .now))
+open-learnt κs a x e h = h
 
 pub close-learnt : Teaches 2 close-kinds.ps close-kinds.r close.Learnt (λ κs a x e. Closing (a .0 .now) (a .1 .0 .now) x (e .1 .0 .now))
 close-learnt κs a x e h = h
@@ -156,8 +156,8 @@ to-text-learnt κs a x e h = h
 pub c-read-learnt : Teaches 1 c-read-kinds.ps c-read-kinds.r c-read.Learnt (λ κs a x e. Reads (a .0 .now) (unpack x))
 c-read-learnt κs a x e h = unpacks (reading-numbered (a .0 .now)) h
 
-pub c-fresh-learnt : Teaches 1 c-fresh-kinds.ps c-fresh-kinds.r c-fresh.Learnt (λ κs a x e. Freshens (a .0) (a .1 .0 .now) (unpack x) (e .1 .0 .now))
-c-fresh-learnt κs a x e h = unpacks (fresh-numbered (a .0) (a .1 .0 .now)) h
+pub c-open-learnt : Teaches 2 c-open-kinds.ps c-open-kinds.r c-open.Learnt (λ κs a x e. Opening (a .0 .now) (a .1 .0 .now) (unpack x) (e .1 .0 .now))
+c-open-learnt κs a x e h = unpacks (opening-numbered (a .0 .now) (a .1 .0 .now)) h
 
 pub c-close-learnt : Teaches 2 c-close-kinds.ps c-close-kinds.r c-close.Learnt (λ κs a x e. Closing (a .0 .now) (a .1 .0 .now) (unpack x) (e .1 .0 .now))
 c-close-learnt κs a x e h = unpacks (close-numbered (a .0 .now) (a .1 .0 .now)) h

@@ -3,19 +3,16 @@ use mathlib.Core.Path.{_≡_, sym, _∙_, subst}
 use mathlib.Core.Logic.{⊎-elim, _↔_, Iff·trans}
 use mathlib.Core.List.{List}
 use Prim.Native.Nat.{ℕ}
-use lib.Dec.{T, not-T}
 use Rattle.rules.specs.Descriptions.{Sheet, good, read, OneArity}
-use Rattle.rules.specs.Tables.{emptied}
+use Rattle.rules.specs.Tables.{filled}
 use Rattle.rules.specs.Arrangements.{Arrangement}
-use Rattle.rules.specs.Closed.{Largest}
-use Rattle.rules.specs.Closing.{closing}
 use Rattle.rules.specs.Search.{plainOrder, Order}
 use Rattle.rules.proofs.Descriptions.{read-wellFormed}
-use Rattle.rules.proofs.Largest.{closing-largest, largest-unique}
-use Rattle.rules.proofs.Arrangements.{arrangement-kept}
+use Rattle.rules.proofs.Full.{full-table}
+use Rattle.rules.proofs.Largest.{closing-largest}
 use Rattle.rules.proofs.Search.{plain-order}
 use Rattle.rules.proofs.Stages.{stages-clash, stages-table}
-use Rattle.rules.proofs.Calls.{strikes-counted, strikes-most}
+use Rattle.rules.proofs.Calls.{wellFormed-table, hasCells-cells}
 use Rattle.trees.specs.Trees.{DrawnFrom}
 use Rattle.trees.proofs.Radial.{drawn-iff, nowhere-iff}
 use Rattle.clauses.specs.Clauses.{Description, Writes, Solves}
@@ -24,27 +21,22 @@ use Rattle.clauses.proofs.Spelling.{written-once, one-run, writes-means}
 use Rattle.clauses.proofs.Constraints.{solved-iff, unsolvable-iff}
 use Rattle.answers.specs.Answers.{answered}
 use Rattle.answers.proofs.Outcomes.{outcome-determined}
-use Rattle.rules.proofs.Freshness.{fresh-no-boards, fresh-no-cells, fresh-full}
-use Rattle.demands.specs.Entries.{Reads, Freshens, Closing, Searching, Checking, Call, searches}
+use Rattle.demands.specs.Entries.{Reads, Opening, Closing, Searching, Checking, Call, searches}
 use Rattle.demands.specs.Published.{WriteOnly, OfPublished}
 use Rattle.demands.specs.Runs.{sheets}
 use Rattle.demands.specs.Sentences.{Demand1, Demand2, Demand3}
-use Rattle.demands.proofs.Refusing.{refuses, reading-refused, reading-good, call-gives, gives-description, gives-table, gives-leaves, gives-good}
+use Rattle.demands.proofs.Refusing.{reading-refused, reading-good, opening-gives, call-gives, gives-good, gives-refuses}
 use Rattle.demands.proofs.Finding.{search-ends, ways-none, ways-out, out-ways, ways-within, ways-tries, budget-more, stated-none, finds-least, finds-none, full-finds, full-none, check-ends, check-rejects, check-accepts, check-accepted}
-use Rattle.demands.proofs.Ending.{ends, ends-answers, ends-keeps, ends-contradictory, done, run, same-boards}
+use Rattle.demands.proofs.Ending.{closing-ends, opening-ends, ends-done, closes-each, run, same-boards, opened-same}
 
--- Demand 1, of the reader, the fresh table, and the calls that close, search and check.
-pub demand-1 : Demand1 Reads Freshens Call
+-- Demand 1, of the reader, the opening, and the calls that close, search and check.
+pub demand-1 : Demand1 Reads Opening Call
 demand-1 =
     record {
-      malformed-description-refused = λ ws t a w call. gives-description ws t a w (call-gives ws t a w call);
-      malformed-table-refused = λ ws t a w call. gives-table ws t a w (call-gives ws t a w call);
-      refusal-leaves-table = λ ws t a w call. gives-leaves ws t a w (call-gives ws t a w call);
+      opening-refuses = gives-refuses hasCells-cells opening-gives;
+      calls-refuse = gives-refuses wellFormed-table call-gives;
       malformed-description-told = λ ws a call n k e. outcome-determined a (answered n k) tt tt (call ∙ reading-refused ws n k e) .0;
       good-description-told = λ ws a call s e. outcome-determined a (answered 0 0) tt tt (call ∙ reading-good ws s e) .0;
-      fresh-boards-refused = λ v t a w call f. refuses t a w (call ∙ fresh-no-boards v t f);
-      fresh-cells-refused = λ v t a w call l m f. refuses t a w (call ∙ fresh-no-cells v t l m f);
-      fresh-fills = λ v t a w call l m e. outcome-determined a (answered 0 0) w _ (call ∙ fresh-full v t l m e);
     }
 
 -- ---- arrangements, trees and published constraints
@@ -106,7 +98,8 @@ demand-2-in-any-order {ord} order =
       check-rejects-exactly = λ ws s means t table a call. check-rejects a (check-ends ws s means t table a call);
       found-is-accepted = λ ws t b a w call z c checked.
           let g = gives-good ws t a w (call-gives ws t a w (searches ord b call)) z in
-          check-accepted ws w c checked (g .0, g .1, finds-least order ws (g .0) (g .1) t (g .2) b a w call z .arrangement);
+          check-accepted ws w c checked
+          (g .0, g .1, finds-least order ws (g .0) (g .1) t (wellFormed-table (g .0 .boards) t (g .2)) b a w call z .arrangement);
     }
 
 -- The call's own order is E, A, B, S.
@@ -115,31 +108,26 @@ demand-2 = demand-2-in-any-order plain-order
 
 -- ---- demand 3
 
--- Demand 3, of the closing.
-pub demand-3 : Demand3 Closing
+-- Demand 3, of the opening and the closing.
+pub demand-3 : Demand3 Opening Closing
 demand-3 =
     record {
-      closing-answers = λ ws s means t table a w call. ends-answers (ends ws s means t table a w call);
-      closing-largest-table = λ ws s means t table a w call closed.
-          subst (Largest s t) (sym (done ws s means t table a w call closed .1)) (closing-largest s t table);
-      closing-loses-none = λ ws s means t table a w call x r i.
-          ends-keeps (ends ws s means t table a w call) (arrangement-kept (read-wellFormed ws s means) (closing-largest s t table) r i) r;
-      closing-counted = λ ws s means t table a w call closed.
-          let d = done ws s means t table a w call closed in rw (d .2, d .1) (strikes-counted (closing-largest s t table .inside));
-      closing-count-most = λ ws s means t table a w call closed.
-          let d = done ws s means t table a w call closed in
-          rw (d .2)
-          (strikes-most (read-wellFormed ws s means .boards .1) table (closing-largest s t table .table)
-          (not-T (emptied (closing s t)) (λ e. subst T (d .0) e)));
-      closing-contradictory = λ ws s means t table a w call.
-          let l = closing-largest s t table in (closing s t, l, λ x m. largest-unique m l, ends-contradictory (ends ws s means t table a w call));
-      stages-same-table = λ one gs stages t table a u single w c called n.
-          let d = done (one .words) (one .sheet) (one .means) t table a u single n in
+      closing = closes-each (λ P f ws s means t table a w call.
+          f s t a w (record { formed = read-wellFormed ws s means; table = table; lent = t; ended = closing-ends ws s means t table a w call }));
+      opening = closes-each (λ P f ws s means t cells a w call.
+          f s (filled (s .boards)) a w
+          (record { formed = read-wellFormed ws s means; table = full-table (s .boards); lent = t; ended = opening-ends ws s means t cells a w call }));
+      stages-same-table = λ one gs stages t table a u single w c called z.
+          let d = ends-done (closing-ends (one .words) (one .sheet) (one .means) t table a u single) z in
           stages-table (sheets gs) stages t w c (closing-largest (one .sheet) t table)
           (run gs (same-boards (one .sheet) gs stages) t w c table called) (d .0)
           ∙ sym (d .1);
       stages-contradictory = λ one gs stages t table a u single w c called.
-          let e = ends (one .words) (one .sheet) (one .means) t table a u single .1 in
+          let e = closing-ends (one .words) (one .sheet) (one .means) t table a u single .1 in
           sym (stages-clash (sheets gs) stages t w c (closing-largest (one .sheet) t table) (run gs (same-boards (one .sheet) gs stages) t w c table called))
           ∙ e .empty ∙ sym (e .says);
+      opened-stages-same-table = λ one g gs stages l t l-cells t-cells a u single w c calls.
+          opened-same one g gs stages l t l-cells t-cells a u single w c calls .table;
+      opened-stages-contradictory = λ one g gs stages l t l-cells t-cells a u single w c calls.
+          opened-same one g gs stages l t l-cells t-cells a u single w c calls .clash;
     }

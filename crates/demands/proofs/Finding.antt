@@ -11,13 +11,13 @@ use Rattle.rules.specs.Descriptions.{Sheet, Reading, good, refused, read}
 use Rattle.rules.specs.Tables.{Table, filled}
 use Rattle.rules.specs.Arrangements.{Arrangement}
 use Rattle.rules.specs.Search.{Order, End, found, none, tries, ended, ranOut, cap, Least, Nowhere}
-use Rattle.rules.specs.Calls.{admitted, answer, searching, arranged}
+use Rattle.rules.specs.Calls.{wellFormed, admitted, answer, searching, arranged}
 use Rattle.rules.proofs.Tests.{true-T}
 use Rattle.rules.proofs.Descriptions.{read-wellFormed}
-use Rattle.rules.proofs.Calls.{admitted-out, arrangement-arranged, arranged-arrangement}
+use Rattle.rules.proofs.Calls.{wellFormed-table, admitted-out, arrangement-arranged, arranged-arrangement}
 use Rattle.rules.proofs.Largest.{closing-largest}
 use Rattle.rules.proofs.Search.{search-found, search-none, cap-case, cap-more}
-use Rattle.boards.proofs.Made.{full-table}
+use Rattle.rules.proofs.Full.{full-table}
 use Rattle.answers.specs.declared.Answer.{Answer}
 use Rattle.answers.specs.Answers.{outcome}
 use Rattle.answers.proofs.Outcomes.{says, counts, leaves}
@@ -99,19 +99,20 @@ module _ {e : End} {b : ℕ} {t : List ℕ} {a : Answer} {w : List ℕ} (ways : 
 -- a larger budget comes to the same, unless the smaller one ran out
 pub budget-more : (ord ws t : List ℕ) (b c : ℕ) → b ≤ c → (a : Answer) (u : List ℕ) → Searching ord ws t b a u → (a .number ≡ 9 → ⊥)
     → searching ord ws t b ≡ searching ord ws t c
-budget-more ord ws t b c l a u call n = by-opening (admitted ws t) refl
+budget-more ord ws t b c l a u call n = by-admission (admitted wellFormed ws t) refl
   where
     enough : (s : Sheet) → outcome a u ≡ answer t (cap b (stated ord s t)) → cap b (stated ord s t) ≡ cap c (stated ord s t)
     enough s is =
         ⊎-elim (λ d. d .1 ∙ sym (cap-more b c (stated ord s t) (stated ord s t) l (d .1))) (λ d. absurd (n (says (is ∙ ap (answer t) (d .1)))))
         (cap-case b (stated ord s t))
 
-    by-opening : (r : Reading Sheet) → admitted ws t ≡ r → searching ord ws t b ≡ searching ord ws t c
-    by-opening (good s) e =
-        let k = admitted-out ws t s e in
-        let p = search-good t ws s (k .0) (k .1) ord b in
-        p ∙ ap (answer t) (enough s (call ∙ p)) ∙ sym (search-good t ws s (k .0) (k .1) ord c)
-    by-opening (refused m k) e = search-refused t ws ord b e ∙ sym (search-refused t ws ord c e)
+    by-admission : (r : Reading Sheet) → admitted wellFormed ws t ≡ r → searching ord ws t b ≡ searching ord ws t c
+    by-admission (good s) e =
+        let k = admitted-out wellFormed ws t s e in
+        let table = wellFormed-table (s .boards) t (k .1) in
+        let p = search-good t ws s (k .0) table ord b in
+        p ∙ ap (answer t) (enough s (call ∙ p)) ∙ sym (search-good t ws s (k .0) table ord c)
+    by-admission (refused m k) e = search-refused t ws ord b e ∙ sym (search-refused t ws ord c e)
 
 -- what the search finds is the first arrangement; it says none where there is none
 module _ {ord : List ℕ} (order : Order ord) (ws : List ℕ) (s : Sheet) (means : read ws ≡ good s) (t : List ℕ) (table : Table (s .boards) t) (n : ℕ) where
@@ -166,7 +167,8 @@ module _ (ws t : List ℕ) (a : Answer) (call : Checking ws t a) where
   pub check-accepts : a .number ≡ 0 → Arranges ws t
   check-accepts z =
       let g = gives-good ws t a t (call-gives ws t a t (checks call refl)) z in
-      ⊎-elim (λ d. (g .0, g .1, d .1)) (λ d. unlike (d .0) z (λ h. omega arith)) (check-ends ws (g .0) (g .1) t (g .2) a call)
+      ⊎-elim (λ d. (g .0, g .1, d .1)) (λ d. unlike (d .0) z (λ h. omega arith))
+      (check-ends ws (g .0) (g .1) t (wellFormed-table (g .0 .boards) t (g .2)) a call)
 
   pub check-accepted : Arranges ws t → a .number ≡ 0
   check-accepted r = ⊎-elim (λ d. d .0) (λ d. absurd (d .1 (r .2))) (check-ends ws (r .0) (r .1) t (r .2 .table) a call)

@@ -10,3 +10,4 @@ pub mod Texts
 pub mod Arities
 pub mod Places
 pub mod Refuted
+pub mod Openings

@@ -21,11 +21,11 @@ use Rattle.rules.proofs.Places.{placing-read}
 use Rattle.meanings.proofs.Sheets.{typed-made}
 use Rattle.answers.specs.declared.Answer.{Answer}
 use Rattle.answers.proofs.Outcomes.{says, counts}
-use Rattle.demands.specs.Entries.{Reads, Call, ReadingText, WritingText}
+use Rattle.demands.specs.Entries.{Reads, AnyCall, ReadingText, WritingText}
 use Rattle.demands.specs.Sentences.{TableCall}
 use Rattle.demands.specs.Texts.{RoomCall}
 use Rattle.demands.specs.Places.{Carries, SaysWhere, Places}
-use Rattle.demands.proofs.Refusing.{reading-refused, call-gives, gives-description}
+use Rattle.demands.proofs.Refusing.{reading-refused, any-gives, gives-description}
 use Rattle.demands.proofs.Rooms.{Ends, ends-refused, writer-ends, reader-ends}
 use Rattle.demands.proofs.Lines.{typed-many-relations, typed-many-kinds}
 use Rattle.demands.proofs.Arities.{eleven-at}
@@ -36,12 +36,12 @@ use Rattle.demands.proofs.Arities.{eleven-at}
 ends-carry : {ws xs room : List ℕ} {a : Answer} {w : List ℕ} → Ends ws xs room a w → Carries ws a
 ends-carry {ws = ws} e n k d = ends-refused e n k (read-numbered ws n k d) .1 d
 
--- Request 3, of the reader, the calls that close, search and check, and the two text calls.
-pub says-where : SaysWhere Reads Call ReadingText WritingText
+-- Request 3, of the reader, the calls that open, close, search and check, and the two text calls.
+pub says-where : SaysWhere Reads AnyCall ReadingText WritingText
 says-where =
     record {
       reader-carries = λ ws a call n k e. (says (call ∙ reading-refused ws n k e), counts (call ∙ reading-refused ws n k e));
-      calls-carry = λ ws t a w call n k e. let r = gives-description ws t a w (call-gives ws t a w call) n k e in (r .number, r .count);
+      calls-carry = λ ws t a w call n k e. let r = gives-description ws t a w (any-gives ws t a w call .1) n k e in (r .number, r .count);
       text-reader-carries = λ text ws t room a w call. ends-carry (reader-ends text (typed-made t) call);
       text-writer-carries = λ ws room a w call. ends-carry (writer-ends ws call);
       many-relations = λ text ws t room a w call some most h.

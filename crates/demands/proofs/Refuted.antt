@@ -16,30 +16,31 @@ use Rattle.rules.specs.Closing.{reaches, agree, bound6, bound6′, bound7, boun
 use Rattle.rules.specs.Search.{plainOrder, End, found, tries, attempt, choose, places, search}
 use Rattle.rules.specs.Stages.{Among, Stages}
 use Rattle.rules.specs.Calls.{wellFormed, arranged}
-use Rattle.rules.specs.Cases.{is, atOrAbove}
+use Rattle.rules.specs.Cases.{is, atOrAbove, stale}
 use Rattle.rules.proofs.Tests.{true-T}
 use Rattle.rules.proofs.Descriptions.{read-wellFormed}
 use Rattle.rules.proofs.Largest.{closing-largest}
 use Rattle.rules.proofs.Search.{plain-order, least-unique, search-found}
 use Rattle.rules.proofs.Calls.{wellFormed-table, arrangement-arranged, arranged-arrangement}
-use Rattle.boards.proofs.Made.{full-table}
+use Rattle.rules.proofs.Full.{full-table}
 use Rattle.answers.specs.declared.Answer.{Answer}
 use Rattle.demands.specs.Runs.{Stage, Called}
-use Rattle.demands.specs.Sentences.{TableCall, SearchCall, CheckCall, stated, Demand2, Demand3}
+use Rattle.demands.specs.Sentences.{TableCall, SearchCall, CheckCall, Cells, Demand1, stated, Demand2, ClosingSentence, ClosesEach, Demand3}
 
 -- ---- what the sentences say where a search or a closing succeeds
 
--- Under demand 3 a closing whose largest table has no empty cell answers 0, leaves that table and counts what it struck.
-closed-by : {Closes : TableCall} → Demand3 Closes → (ws : List ℕ) (s : Sheet) → read ws ≡ good s → (t : List ℕ) → Table (s .boards) t → emptied (closing s t) ≡ false
-    → (a : Answer) (w : List ℕ) → Closes ws t a w → (a .number ≡ 0) × (w ≡ closing s t) × (a .count + total (closing s t) ≡ total t)
-closed-by d ws s means t table whole a w call =
-    let l = d .closing-contradictory ws s means t table a w call in
+-- Where each closing of t under s is said to do as demand 3 asks, one whose largest table has no empty cell answers 0, leaves that table and counts what it struck.
+closed-by : {Each : ClosingSentence → Type 0} → ClosesEach Each → (s : Sheet) (t : List ℕ) (a : Answer) (w : List ℕ)
+    → ((P : ClosingSentence) → Each P → P s t a w) → Table (s .boards) t → emptied (closing s t) ≡ false
+    → (a .number ≡ 0) × (w ≡ closing s t) × (a .count + total (closing s t) ≡ total t)
+closed-by d s t a w one table whole =
+    let l = one _ (d .closing-contradictory) in
     let same : closing s t ≡ l .0 = l .2 (closing s t) (closing-largest s t table) in
     ⊎-elim
-    (λ z. let e : w ≡ closing s t = l .2 w (d .closing-largest-table ws s means t table a w call z) ∙ sym same in
-    (z, e, subst (λ (u : List ℕ). a .count + total u ≡ total t) e (d .closing-counted ws s means t table a w call z)))
+    (λ z. let e : w ≡ closing s t = l .2 w (one _ (d .closing-largest-table) z) ∙ sym same in
+    (z, e, subst (λ (u : List ℕ). a .count + total u ≡ total t) e (one _ (d .closing-counted) z)))
     (λ z. absurd (subst T (ap emptied (sym same) ∙ whole) (l .3 .0 z)))
-    (d .closing-answers ws s means t table a w call)
+    (one _ (d .closing-answers))
 
 -- Under demand 2 a search that is stated to find a table within the budget answers 0, leaves that table and counts the tries.
 found-by : {Searches : SearchCall} {Checks : CheckCall} → Demand2 plainOrder Searches Checks → (ws : List ℕ) (s : Sheet) → read ws ≡ good s → (t : List ℕ)
@@ -68,6 +69,10 @@ second = describe 2 (atOrAbove 0 1 ∷ atOrAbove 1 0 ∷ []) []
 abbrev strict : List ℕ
 strict = describe 2 (is 0 above 1 ∷ []) []
 
+-- each is above the other, which cannot be
+abbrev contrary : List ℕ
+contrary = describe 2 (is 0 above 1 ∷ is 1 above 0 ∷ []) []
+
 -- the table after the first stage
 abbrev between : List ℕ
 between = 1 ∷ 3 ∷ 5 ∷ 1 ∷ []
@@ -82,7 +87,7 @@ zeroAbove = 1 ∷ 2 ∷ 4 ∷ 1 ∷ []
 abbrev bothAbove : List ℕ
 bothAbove = 1 ∷ 2 ∷ 2 ∷ 1 ∷ []
 
--- what the three descriptions mean
+-- what the four descriptions mean
 abbrev firstSheet : Sheet
 firstSheet = record { boards = 2; lines = record { p = 0; q = 1; allowed = 3 } ∷ []; kinds = [] }
 
@@ -92,15 +97,20 @@ secondSheet = record { boards = 2; lines = record { p = 0; q = 1; allowed = 3 } 
 abbrev strictSheet : Sheet
 strictSheet = record { boards = 2; lines = record { p = 0; q = 1; allowed = 2 } ∷ []; kinds = [] }
 
+abbrev contrarySheet : Sheet
+contrarySheet = record { boards = 2; lines = record { p = 0; q = 1; allowed = 2 } ∷ record { p = 1; q = 0; allowed = 2 } ∷ []; kinds = [] }
+
 -- what the definitions come to there
 record Computed : Type 0 where
   first-means : read first ≡ good firstSheet
   second-means : read second ≡ good secondSheet
   strict-means : read strict ≡ good strictSheet
+  contrary-means : read contrary ≡ good contrarySheet
   -- the largest closed tables, and the relations in them
   first-closing : closing firstSheet (filled 2) ≡ between
   second-closing : closing secondSheet between ≡ oneBoard
   single-closing : closing secondSheet (filled 2) ≡ oneBoard
+  contrary-closing : emptied (closing contrarySheet (filled 2)) ≡ true
   between-whole : emptied between ≡ false
   one-board-whole : emptied oneBoard ≡ false
   between-table : wellFormed 2 between ≡ true
@@ -125,9 +135,11 @@ computed =
       first-means = refl;
       second-means = refl;
       strict-means = refl;
+      contrary-means = refl;
       first-closing = refl;
       second-closing = refl;
       single-closing = refl;
+      contrary-closing = refl;
       between-whole = refl;
       one-board-whole = refl;
       between-table = refl;
@@ -141,34 +153,50 @@ computed =
       both-above-not = refl;
     }
 
+-- the first two descriptions as stages: the lines of the first are among those of the second
+part : Stage
+part = record { words = first; sheet = firstSheet; means = computed .first-means }
+
+whole : Stage
+whole = record { words = second; sheet = secondSheet; means = computed .second-means }
+
+all : Among secondSheet secondSheet
+all = record { boards = refl; lines = λ l m. m; kinds = λ k m. m }
+
+among : Among firstSheet secondSheet
+among = record { boards = refl; lines = λ l m. ⊎-elim (λ e. List·Memᴰ·head e) (λ n. absurd (List·Memᴰ·not-nil n)) (List·Memᴰ·cases-cons m); kinds = λ k m. m }
+
 -- what equal tables have in the cell (0, 1)
 cell01 : {u w : List ℕ} → u ≡ w → getD u 1 0 ≡ getD w 1 0
 cell01 e = ap (λ (w : List ℕ). getD w 1 0) e
 
 -- ---- demand 3
 
-module _ {Closes : TableCall} (demand : Demand3 Closes) where
+module _ {Opens Closes : TableCall} (demand : Demand3 Opens Closes) where
   -- the closing at the first stage, at the second, and at once
   first-closed : (a : Answer) (w : List ℕ) → Closes first (filled 2) a w → (a .number ≡ 0) × (w ≡ between) × (a .count ≡ 10)
   first-closed a w call =
       let is = computed .first-closing in
       let c =
-      closed-by demand first firstSheet (computed .first-means) (filled 2) (full-table 2) (ap emptied is ∙ computed .between-whole) a w call in
+      closed-by (demand .closing) firstSheet (filled 2) a w (λ P each. each first firstSheet (computed .first-means) (filled 2) (full-table 2) a w call)
+      (full-table 2) (ap emptied is ∙ computed .between-whole) in
       let counted : a .count + 6 ≡ 16 = ap (λ (n : ℕ). a .count + n) (sym (ap total is ∙ computed .between-total)) ∙ c .2 ∙ computed .full-total in
       (c .0, c .1 ∙ is, omega arith)
 
   second-closed : (a : Answer) (w : List ℕ) → Closes second between a w → w ≡ oneBoard
   second-closed a w call =
       let is = computed .second-closing in
-      closed-by demand second secondSheet (computed .second-means) between (wellFormed-table 2 between (true-T (computed .between-table)))
-      (ap emptied is ∙ computed .one-board-whole) a w call .1
+      let table = wellFormed-table 2 between (true-T (computed .between-table)) in
+      closed-by (demand .closing) secondSheet between a w (λ P each. each second secondSheet (computed .second-means) between table a w call) table
+      (ap emptied is ∙ computed .one-board-whole) .1
       ∙ is
 
   single-closed : (a : Answer) (w : List ℕ) → Closes second (filled 2) a w → (a .number ≡ 0) × (w ≡ oneBoard)
   single-closed a w call =
       let is = computed .single-closing in
       let c =
-      closed-by demand second secondSheet (computed .second-means) (filled 2) (full-table 2) (ap emptied is ∙ computed .one-board-whole) a w call in
+      closed-by (demand .closing) secondSheet (filled 2) a w (λ P each. each second secondSheet (computed .second-means) (filled 2) (full-table 2) a w call)
+      (full-table 2) (ap emptied is ∙ computed .one-board-whole) in
       (c .0, c .1 ∙ is)
 
   -- a closing that always says contradictory
@@ -187,29 +215,78 @@ module _ {Closes : TableCall} (demand : Demand3 Closes) where
   -- the same by the sentence of stages: a run that closes at the first stage and only pretends at the second, beside the single closing
   pub pretends-in-stages-excluded : (a b c : Answer) (u : List ℕ) → Closes first (filled 2) a between → Closes second between b between
       → Closes second (filled 2) c u → ⊥
-  unfolding Called Stages
+  unfolding Called Stages part whole
   pretends-in-stages-excluded a b c u earlier later single =
       let one = single-closed c u single in
       let w =
       demand .stages-same-table whole (part ∷ whole ∷ []) (among, (all, all)) (filled 2) (full-table 2) c u single between _
       (a, between, _, earlier, (b, between, false, later, (refl, refl), refl), refl) (one .0) in
       let x : _≡_ {A = ℕ} 3 1 = cell01 (w ∙ one .1) in omega arith
-    where
-      part : Stage
-      part = record { words = first; sheet = firstSheet; means = computed .first-means }
-
-      whole : Stage
-      whole = record { words = second; sheet = secondSheet; means = computed .second-means }
-
-      all : Among secondSheet secondSheet
-      all = record { boards = refl; lines = λ l m. m; kinds = λ k m. m }
-
-      among : Among firstSheet secondSheet
-      among = record { boards = refl; lines = λ l m. ⊎-elim (λ e. List·Memᴰ·head e) (λ n. absurd (List·Memᴰ·not-nil n)) (List·Memᴰ·cases-cons m); kinds = λ k m. m }
 
   -- invented strikes
   pub invented-strikes-excluded : (a : Answer) (w : List ℕ) → (a .count ≡ 10 → ⊥) → Closes first (filled 2) a w → ⊥
   invented-strikes-excluded a w f call = f (first-closed a w call .2)
+
+-- ---- opening, by demands 1 and 3
+
+module _ {Reads : List ℕ → Answer → Type 0} {Opens Closes Calls : TableCall} (demand-1 : Demand1 Reads Opens Calls) (demand-3 : Demand3 Opens Closes) where
+  -- the opening under the first description and under the second, whatever the four cells hold
+  first-opened : (t : List ℕ) → Cells 2 t → (a : Answer) (w : List ℕ) → Opens first t a w → (a .number ≡ 0) × (w ≡ between) × (a .count ≡ 10)
+  first-opened t cells a w call =
+      let is = computed .first-closing in
+      let c =
+      closed-by (demand-3 .opening) firstSheet (filled 2) a w (λ P each. each first firstSheet (computed .first-means) t cells a w call)
+      (full-table 2) (ap emptied is ∙ computed .between-whole) in
+      let counted : a .count + 6 ≡ 16 = ap (λ (n : ℕ). a .count + n) (sym (ap total is ∙ computed .between-total)) ∙ c .2 ∙ computed .full-total in
+      (c .0, c .1 ∙ is, omega arith)
+
+  second-opened : (t : List ℕ) → Cells 2 t → (a : Answer) (w : List ℕ) → Opens second t a w → (a .number ≡ 0) × (w ≡ oneBoard)
+  second-opened t cells a w call =
+      let is = computed .single-closing in
+      let c =
+      closed-by (demand-3 .opening) secondSheet (filled 2) a w (λ P each. each second secondSheet (computed .second-means) t cells a w call)
+      (full-table 2) (ap emptied is ∙ computed .one-board-whole) in
+      (c .0, c .1 ∙ is)
+
+  -- an opening that gives 6 for old contents: here no cell is a set
+  pub six-for-old-contents-excluded : (a : Answer) (w : List ℕ) → a .number ≡ 6 → Opens first (stale 2) a w → ⊥
+  six-for-old-contents-excluded a w e call = let n : a .number ≡ 0 = first-opened (stale 2) refl a w call .0 in omega arith
+
+  -- one that closes the old contents, here one board, whatever it answers
+  pub old-contents-closed-excluded : (a : Answer) → Opens first oneBoard a oneBoard → ⊥
+  old-contents-closed-excluded a call = let x : _≡_ {A = ℕ} 1 3 = cell01 (first-opened oneBoard refl a oneBoard call .1) in omega arith
+
+  -- one that counts strikes from the old contents: here these are what it leaves
+  pub strikes-from-old-contents-excluded : (a : Answer) (w : List ℕ) → a .count ≡ 0 → Opens first between a w → ⊥
+  strikes-from-old-contents-excluded a w e call = let n : a .count ≡ 10 = first-opened between refl a w call .2 in omega arith
+
+  -- one that leaves the full table on 7, whatever it answers
+  pub filled-on-seven-excluded : (a : Answer) → Opens contrary oneBoard a (filled 2) → ⊥
+  unfolding relations setTo setOf full
+  filled-on-seven-excluded a call =
+      let l = demand-3 .opening .closing-contradictory contrary contrarySheet (computed .contrary-means) oneBoard refl a (filled 2) call in
+      let same : closing contrarySheet (filled 2) ≡ l .0 = l .2 (closing contrarySheet (filled 2)) (closing-largest contrarySheet (filled 2) (full-table 2)) in
+      let seven : a .number ≡ 7 = l .3 .1 (true-T (ap emptied (sym same) ∙ computed .contrary-closing)) in
+      let x : _≡_ {A = ℕ} 15 1 = cell01 (demand-1 .opening-refuses .refusal-leaves-table contrary oneBoard a (filled 2) call (λ z. omega (arith, z))) in
+      omega arith
+
+  -- one that gives 7 before 6: here there are no cells
+  pub seven-before-six-excluded : (a : Answer) (w : List ℕ) → a .number ≡ 7 → Opens contrary [] a w → ⊥
+  seven-before-six-excluded a w e call =
+      let n : a .number ≡ 6 =
+      demand-1 .opening-refuses .malformed-table-refused contrary [] a w call contrarySheet (computed .contrary-means) (λ c. omega (arith, c)) .number in
+      omega arith
+
+  -- a closing that only pretends after the table was opened, by the sentence of stages
+  pub pretends-after-opening-excluded : (a b c : Answer) (u : List ℕ) → Opens first (stale 2) a between → Closes second between b between
+      → Opens second (stale 2) c u → ⊥
+  unfolding Called Stages part whole
+  pretends-after-opening-excluded a b c u earlier later single =
+      let one = second-opened (stale 2) refl c u single in
+      let w =
+      demand-3 .opened-stages-same-table whole part (whole ∷ []) (among, (all, all)) (stale 2) (stale 2) refl refl c u single between _
+      (a, between, _, earlier, (b, between, false, later, (refl, refl), refl), refl) (one .0) in
+      let x : _≡_ {A = ℕ} 3 1 = cell01 (w ∙ one .1) in omega arith
 
 -- ---- demand 2
 

@@ -2,7 +2,7 @@
 use mathlib.Core.Path.{_≡_}
 use mathlib.Core.List.{List}
 use Prim.Native.Nat.{ℕ}
-use Rattle.rules.specs.Calls.{reading, fresh, close, searching, check}
+use Rattle.rules.specs.Calls.{reading, opening, close, searching, check}
 use Rattle.typed.specs.Calls.{fromText, toText}
 use Rattle.answers.specs.declared.Answer.{Answer}
 use Rattle.answers.specs.Answers.{outcome}
@@ -11,9 +11,9 @@ use Rattle.answers.specs.Answers.{outcome}
 abbrev pub Reads : List ℕ → Answer → Type 0
 Reads ws a = outcome a tt ≡ reading ws
 
--- the fresh table of v boards may answer a and leave w of the lent table t
-abbrev pub Freshens : ℕ → List ℕ → Answer → List ℕ → Type 0
-Freshens v t a w = outcome a w ≡ fresh v t
+-- opening the lent table t under the description ws may answer a and leave w
+abbrev pub Opening : List ℕ → List ℕ → Answer → List ℕ → Type 0
+Opening ws t a w = outcome a w ≡ opening ws t
 
 -- closing the lent table t under the description ws may answer a and leave w
 abbrev pub Closing : List ℕ → List ℕ → Answer → List ℕ → Type 0
@@ -35,11 +35,16 @@ ReadingText text room a w = outcome a w ≡ fromText text room
 abbrev pub WritingText : List ℕ → List ℕ → Answer → List ℕ → Type 0
 WritingText ws room a w = outcome a w ≡ toText ws room
 
--- a call that is lent the description ws and the table t may answer a and leave w
+-- a call that is lent the description ws and the table t, and looks at what the table holds, may answer a and leave w
 pub data Call (ws t : List ℕ) (a : Answer) (w : List ℕ) : Type 0 where
   closes : Closing ws t a w → Call ws t a w
   searches : (ord : List ℕ) (b : ℕ) → Searching ord ws t b a w → Call ws t a w
   checks : Checking ws t a → w ≡ t → Call ws t a w
+
+-- a call that is lent the description ws and the table t may answer a and leave w
+pub data AnyCall (ws t : List ℕ) (a : Answer) (w : List ℕ) : Type 0 where
+  opens : Opening ws t a w → AnyCall ws t a w
+  calls : Call ws t a w → AnyCall ws t a w
 
 -- refused with this number and this count, the table as it came
 pub record Refuses (n k : ℕ) (t : List ℕ) (a : Answer) (w : List ℕ) : Type 0 where

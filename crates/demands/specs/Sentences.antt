@@ -2,11 +2,11 @@
 use mathlib.Core.Path.{_≡_}
 use mathlib.Core.Bool.{Bool}
 use mathlib.Core.Logic.{_⊎_, _↔_}
-use mathlib.Core.List.{List}
+use mathlib.Core.List.{List, _∷_}
 use Prim.Native.Nat.{ℕ, _+_, _*_, _≤_, _<_}
 use lib.Dec.{T}
 use lib.ListN.{length}
-use Rattle.rules.specs.Descriptions.{mostBoards, Sheet, good, refused, read}
+use Rattle.rules.specs.Descriptions.{Sheet, good, refused, read}
 use Rattle.rules.specs.Tables.{Table, Inside, emptied, total, filled}
 use Rattle.rules.specs.Arrangements.{Arrangement}
 use Rattle.rules.specs.Closed.{Largest}
@@ -19,7 +19,7 @@ use Rattle.answers.specs.declared.Answer.{Answer}
 use Rattle.answers.specs.Answers.{answered}
 use Rattle.demands.specs.Entries.{Refuses}
 use Rattle.demands.specs.Published.{OfPublished}
-use Rattle.demands.specs.Runs.{Stage, sheets, contradictory, Called}
+use Rattle.demands.specs.Runs.{Stage, sheets, contradictory, Called, Opened}
 
 -- What a call that is lent the description ws and the table t may answer, a, and leave of the table, w; a search, within a budget b; a check, which only reads.
 abbrev pub TableCall : Type 1
@@ -37,25 +37,27 @@ CheckCall = (ws t : List ℕ) (a : Answer) → Type 0
 abbrev pub EachCall : TableCall → ((ws t : List ℕ) (a : Answer) (w : List ℕ) → Type 0) → Type 0
 EachCall Calls P = (ws t : List ℕ) (a : Answer) (w : List ℕ) → Calls ws t a w → P ws t a w
 
--- P holds of whatever the fresh table answers and leaves, whatever it is lent.
-abbrev pub EachFresh : (ℕ → List ℕ → Answer → List ℕ → Type 0) → ((v : ℕ) (t : List ℕ) (a : Answer) (w : List ℕ) → Type 0) → Type 0
-EachFresh Freshens P = (v : ℕ) (t : List ℕ) (a : Answer) (w : List ℕ) → Freshens v t a w → P v t a w
+-- the table has as many cells as v boards need, whatever they hold
+abbrev pub Cells : ℕ → List ℕ → Type 0
+Cells v t = length t ≡ v * v
 
--- Every entry point takes whatever it is lent, ends, and does nothing undefined: that is said of the code (`every-entry-point`). The rest of the demand,
--- of a reader, a call that makes a fresh table, and a call that is lent a description and a table:
-pub record Demand1 (Reads : List ℕ → Answer → Type 0) (Freshens : ℕ → List ℕ → Answer → List ℕ → Type 0) (Calls : TableCall) : Type 0 where
+-- Of a call that is lent a description and a table, and asks this of the table:
+pub record RefusesMalformed (Asks : ℕ → List ℕ → Type 0) (Calls : TableCall) : Type 0 where
   -- Malformed descriptions and tables are refused by number, a description with the place for a count, the caller having checked nothing;
   pub malformed-description-refused : EachCall Calls (λ ws t a w. (n k : ℕ) → read ws ≡ refused n k → Refuses n k t a w)
-  pub malformed-table-refused : EachCall Calls (λ ws t a w. (s : Sheet) → read ws ≡ good s → (Table (s .boards) t → ⊥) → Refuses 6 0 t a w)
+  pub malformed-table-refused : EachCall Calls (λ ws t a w. (s : Sheet) → read ws ≡ good s → (Asks (s .boards) t → ⊥) → Refuses 6 0 t a w)
   -- a refusal leaves the lent table as it came.
   pub refusal-leaves-table : EachCall Calls (λ ws t a w. (a .number ≡ 0 → ⊥) → w ≡ t)
+
+-- Every entry point takes whatever it is lent, ends, and does nothing undefined: that is said of the code (`every-entry-point`). The rest of the demand,
+-- of a reader, a call that opens a table, and a call that looks at what the lent table holds:
+pub record Demand1 (Reads : List ℕ → Answer → Type 0) (Opens Calls : TableCall) : Type 0 where
+  -- Opening asks for as many cells as the boards need; every other call for a well-formed table.
+  pub opening-refuses : RefusesMalformed Cells Opens
+  pub calls-refuse : RefusesMalformed Table Calls
   -- The reader, which is lent no table, refuses by the same numbers, and takes every other description.
   pub malformed-description-told : (ws : List ℕ) (a : Answer) → Reads ws a → (n k : ℕ) → read ws ≡ refused n k → a ≡ answered n k
   pub good-description-told : (ws : List ℕ) (a : Answer) → Reads ws a → (s : Sheet) → read ws ≡ good s → a ≡ answered 0 0
-  -- The fresh table refuses a number of boards out of range with 1, then a wrong number of cells with 6, and leaves the table as it came; else it is full.
-  pub fresh-boards-refused : EachFresh Freshens (λ v t a w. (1 ≤ v → v ≤ mostBoards → ⊥) → Refuses 1 0 t a w)
-  pub fresh-cells-refused : EachFresh Freshens (λ v t a w. 1 ≤ v → v ≤ mostBoards → (length t ≡ v * v → ⊥) → Refuses 6 0 t a w)
-  pub fresh-fills : EachFresh Freshens (λ v t a w. 1 ≤ v → v ≤ mostBoards → length t ≡ v * v → (a ≡ answered 0 0) × (w ≡ filled v))
 
 -- ==== Demand 2
 
@@ -115,10 +117,36 @@ pub record Demand2 (ord : List ℕ) (Searches : SearchCall) (Checks : CheckCall)
 
 -- ==== Demand 3
 
+-- what is said of a description, the table that is closed under it, the answer, and what is left
+abbrev pub ClosingSentence : Type 1
+ClosingSentence = (s : Sheet) (t : List ℕ) (a : Answer) (w : List ℕ) → Type 0
+
 -- P holds of whatever a closing answers and leaves, for a good description and a well-formed table.
-abbrev pub EachClosing : TableCall → ((s : Sheet) (t : List ℕ) (a : Answer) (w : List ℕ) → Type 0) → Type 0
+abbrev pub EachClosing : TableCall → ClosingSentence → Type 0
 EachClosing Closes P =
     (ws : List ℕ) (s : Sheet) → read ws ≡ good s → (t : List ℕ) → Table (s .boards) t → (a : Answer) (w : List ℕ) → Closes ws t a w → P s t a w
+
+-- P holds of whatever an opening answers and leaves, for a good description and as many cells as its boards need: of the full table, whatever the lent one
+-- holds.
+abbrev pub EachOpening : TableCall → ClosingSentence → Type 0
+EachOpening Opens P =
+    (ws : List ℕ) (s : Sheet) → read ws ≡ good s → (t : List ℕ) → Cells (s .boards) t → (a : Answer) (w : List ℕ) → Opens ws t a w
+    → P s (filled (s .boards)) a w
+
+-- Of each closing of a table t under a description s:
+pub record ClosesEach (Each : ClosingSentence → Type 0) : Type 0 where
+  -- Closing a well-formed table under a well-formed description answers 0 or 7, and nothing else.
+  pub closing-answers : Each (λ s t a w. (a .number ≡ 0) ⊎ (a .number ≡ 7))
+  -- It gives the largest table inside it that obeys every rule,
+  pub closing-largest-table : Each (λ s t a w. a .number ≡ 0 → Largest s t w)
+  -- loses no arrangement
+  pub closing-loses-none : Each (λ s t a w. (x : List ℕ) → Arrangement s x → Inside x t → (a .number ≡ 0) × Inside x w)
+  -- and reports how many relations it struck, from 0 to 768;
+  pub closing-counted : Each (λ s t a w. a .number ≡ 0 → a .count + total w ≡ total t)
+  pub closing-count-most : Each (λ s t a w. a .number ≡ 0 → a .count ≤ 768)
+  -- it is contradictory exactly when that largest table, of which there is one, has an empty cell.
+  pub closing-contradictory : Each
+      (λ s t a w. (u : List ℕ) × Largest s t u × ((x : List ℕ) → Largest s t x → x ≡ u) × ((a .number ≡ 7) ↔ T (emptied u)))
 
 -- P holds of whatever one call under all the lines answers and leaves, and of any run of calls under some of them, in any order, the last under all: of
 -- the table that is left of t, and of whether some call of the run was contradictory.
@@ -127,21 +155,23 @@ EachRun Closes P =
     (one : Stage) (gs : List Stage) → Stages (one .sheet) (sheets gs) → (t : List ℕ) → Table (one .sheet .boards) t → (a : Answer) (u : List ℕ)
     → Closes (one .words) t a u → (w : List ℕ) (c : Bool) → Called Closes gs t w c → P a u w c
 
--- Of a closing:
-pub record Demand3 (Closes : TableCall) : Type 0 where
-  -- Closing a well-formed table under a well-formed description answers 0 or 7, and nothing else.
-  pub closing-answers : EachClosing Closes (λ s t a w. (a .number ≡ 0) ⊎ (a .number ≡ 7))
-  -- It gives the largest table inside it that obeys every rule,
-  pub closing-largest-table : EachClosing Closes (λ s t a w. a .number ≡ 0 → Largest s t w)
-  -- loses no arrangement
-  pub closing-loses-none : EachClosing Closes (λ s t a w. (x : List ℕ) → Arrangement s x → Inside x t → (a .number ≡ 0) × Inside x w)
-  -- and reports how many relations it struck, from 0 to 768;
-  pub closing-counted : EachClosing Closes (λ s t a w. a .number ≡ 0 → a .count + total w ≡ total t)
-  pub closing-count-most : EachClosing Closes (λ s t a w. a .number ≡ 0 → a .count ≤ 768)
-  -- it is contradictory exactly when that largest table, of which there is one, has an empty cell.
-  pub closing-contradictory : EachClosing Closes
-      (λ s t a w. (u : List ℕ) × Largest s t u × ((x : List ℕ) → Largest s t x → x ≡ u) × ((a .number ≡ 7) ↔ T (emptied u)))
+-- P holds of whatever one opening under all the lines answers and leaves, and of any run of calls whose first stage opens a table, the others closing it:
+-- under some of the lines, in any order, the last under all, and whatever the two lent tables held.
+abbrev pub EachOpenedRun : (Opens Closes : TableCall) → ((a : Answer) (u w : List ℕ) (c : Bool) → Type 0) → Type 0
+EachOpenedRun Opens Closes P =
+    (one g : Stage) (gs : List Stage) → Stages (one .sheet) (sheets (g ∷ gs)) → (l t : List ℕ) → Cells (one .sheet .boards) l → Cells (one .sheet .boards) t
+    → (a : Answer) (u : List ℕ) → Opens (one .words) l a u → (w : List ℕ) (c : Bool) → Opened Opens Closes g gs t w c → P a u w c
+
+-- Of an opening and a closing:
+pub record Demand3 (Opens Closes : TableCall) : Type 0 where
+  -- Closing any well-formed table under a well-formed description does as `ClosesEach` says;
+  pub closing : ClosesEach (EachClosing Closes)
+  -- opening closes the full table, whatever the lent one holds.
+  pub opening : ClosesEach (EachOpening Opens)
   -- Closing in stages, in any order of lines, gives the same table as closing once, unless that is contradictory;
   pub stages-same-table : EachRun Closes (λ a u w c. a .number ≡ 0 → w ≡ u)
   -- some stage is contradictory exactly when the single closing is.
   pub stages-contradictory : EachRun Closes (λ a u w c. c ≡ contradictory a)
+  -- The same holds with the opened table as the first stage, beside a single opening.
+  pub opened-stages-same-table : EachOpenedRun Opens Closes (λ a u w c. a .number ≡ 0 → w ≡ u)
+  pub opened-stages-contradictory : EachOpenedRun Opens Closes (λ a u w c. c ≡ contradictory a)

@@ -1,4 +1,4 @@
--- What the program prints for 01's site, for panels that disagree, for no bytes and for one, by computing. Assumes nothing.
+-- What the program prints for 01's site, for one that contradicts itself, for panels that disagree, for no bytes and for one, by computing. Assumes nothing.
 use mathlib.Core.Path.{_≡_, refl}
 use mathlib.Core.List.{List, [], _∷_, _++_, flatMap}
 use Prim.Native.Nat.{ℕ}
@@ -26,6 +26,14 @@ unfolding relations has setTo setOf full meet join complement within size opposi
     total reaches agree bound6 bound6′ bound7 bound7′ rules1 rules2 rules3 rules4 rules5 rules6 rules7 rules strike sweep
     sweeps closing attempt choose places search cap wellFormed admitted searching flatMap words digits decimal sign refusalLine heading pairLine told solved listing
 panel-printed = refl
+
+-- 0 above 1 and 1 above 0: `refused 8`, since the search says none; 7 is told by an opening or a closing alone
+pub contradiction-printed : listing (bytes (2 ∷ 2 ∷ 0 ∷ 6 ∷ 14 ∷ 14 ∷ 0 ∷ 1 ∷ 1 ∷ 1 ∷ 1 ∷ 0 ∷ 1 ∷ 1 ∷ [])) ≡ refusedText ++ (56 ∷ 10 ∷ [])
+unfolding relations has setTo setOf full meet join complement within size opposite converse singles composed compose codes code
+    follow evaluate expression relationLine kindLine section boardsBefore afterNumbers afterOffsets relationLines kindLines meant disagrees firstDisagreeing kindWords agreed read emptied
+    total reaches agree bound6 bound6′ bound7 bound7′ rules1 rules2 rules3 rules4 rules5 rules6 rules7 rules strike sweep
+    sweeps closing attempt choose places search cap wellFormed admitted searching flatMap words digits decimal sign refusalLine heading pairLine told solved listing
+contradiction-printed = refl
 
 -- two panels of code 5, with one way and with two: `refused 11`
 pub disagreeing-printed : listing (bytes (2 ∷ 0 ∷ 2 ∷ 6 ∷ 6 ∷ 15 ∷ 0 ∷ 5 ∷ 1 ∷ 1 ∷ 1 ∷ 5 ∷ 2 ∷ 0 ∷ 0 ∷ [])) ≡ refusedText ++ (49 ∷ 49 ∷ 10 ∷ [])

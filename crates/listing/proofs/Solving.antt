@@ -2,23 +2,21 @@
 use mathlib.Core.Path.{_≡_, sym, ap, _∙_}
 use mathlib.Core.Bool.{Bool, true, false, _&&_}
 use mathlib.Core.List.{List, _++_}
-use Prim.Native.Nat.{ℕ, _*_, _%_, _≤_}
+use Prim.Native.Nat.{ℕ, _%_, _≤_}
 use borrow.Author.Tests.{eq-eqb, ne-eqb}
 use lib.Dec.{eqb, leb, eqb→eq, leb→le, le→leb}
 use lib.ListN.{length, getD}
-use Rattle.rules.specs.Descriptions.{mostBoards, Sheet, good, read}
+use Rattle.rules.specs.Descriptions.{Sheet, good, read}
 use Rattle.rules.specs.Search.{plainOrder}
-use Rattle.rules.specs.Calls.{Outcome, reading, fresh, searching}
+use Rattle.rules.specs.Calls.{Outcome, wellFormed, reading, searching}
 use Rattle.rules.specs.Tables.{filled}
 use Rattle.rules.proofs.Tests.{true-T, T-true, T-false, and-T, T-and-left, T-and-right}
 use Rattle.rules.proofs.Headers.{InRange}
 use Rattle.rules.proofs.Descriptions.{read-out}
 use Rattle.rules.proofs.Calls.{admitted-refused}
 use Rattle.rules.proofs.Called.{search-refused}
-use Rattle.rules.proofs.Freshness.{fresh-full}
 use Rattle.answers.specs.declared.Answer.{Answer}
-use Rattle.answers.specs.Answers.{answered, outcome}
-use Rattle.answers.proofs.Outcomes.{outcome-determined}
+use Rattle.answers.specs.Answers.{outcome}
 use Rattle.answers.proofs.Told.{told-good}
 use Rattle.answers.proofs.Told as answers-told
 use Rattle.words.specs.Words.{words}
@@ -41,20 +39,15 @@ module _ (v : ℕ) (o : Outcome (List ℕ)) where
 
 -- ---- a search of a full table
 
--- the fresh call makes a table full that has as many cells as the boards ask for
-fresh-leaves : (v : ℕ) (t u : List ℕ) (a : Answer) → 1 ≤ v → v ≤ mostBoards → length t ≡ v * v → outcome a u ≡ fresh v t → u ≡ filled v
-fresh-leaves v t u a some few e f = outcome-determined a (answered 0 0) u (filled v) (f ∙ fresh-full v t some few e) .1
+module _ (v : ℕ) (ws : List ℕ) {t w : List ℕ} {a : Answer} (full : t ≡ filled v) (done : outcome a w ≡ searching plainOrder ws t budget) where
+  whole : searching plainOrder ws (filled v) budget ≡ outcome a w
+  whole = ap (λ (l : List ℕ). searching plainOrder ws l budget) (sym full) ∙ sym done
 
-module _ {v : ℕ} (ws t : List ℕ) {u w : List ℕ} {a b : Answer} (some : 1 ≤ v) (few : v ≤ mostBoards) (cells : length t ≡ v * v)
-    (made : outcome a u ≡ fresh v t) (done : outcome b w ≡ searching plainOrder ws u budget) where
-  whole : searching plainOrder ws (filled v) budget ≡ outcome b w
-  whole = ap (λ (l : List ℕ). searching plainOrder ws l budget) (sym (fresh-leaves v t u a some few cells made)) ∙ sym done
+  pub search-told-refused : (a .number ≡ 0 → ⊥) → told v (searching plainOrder ws (filled v) budget) ≡ refusalLine (a .number)
+  search-told-refused f = ap (told v) whole ∙ told-refused v (outcome a w) f
 
-  pub search-told-refused : (b .number ≡ 0 → ⊥) → told v (searching plainOrder ws (filled v) budget) ≡ refusalLine (b .number)
-  search-told-refused f = ap (told v) whole ∙ told-refused v (outcome b w) f
-
-  pub search-told-found : b .number ≡ 0 → told v (searching plainOrder ws (filled v) budget) ≡ heading v (b .count) ++ pairs v w
-  search-told-found e = ap (told v) whole ∙ told-found v (outcome b w) e
+  pub search-told-found : a .number ≡ 0 → told v (searching plainOrder ws (filled v) budget) ≡ heading v (a .count) ++ pairs v w
+  search-told-found e = ap (told v) whole ∙ told-found v (outcome a w) e
 
 -- ---- a description
 
@@ -77,7 +70,7 @@ module _ (ws : List ℕ) where
     unfolding solved
     solved-refused f =
         let t = filled (getD ws 0 0) in
-        ap (told (getD ws 0 0)) (search-refused t ws plainOrder budget (admitted-refused ws t (a .number) (a .count) (answers-told.told-refused ws answers f)))
+        ap (told (getD ws 0 0)) (search-refused t ws plainOrder budget (admitted-refused wellFormed ws t (a .number) (a .count) (answers-told.told-refused ws answers f)))
         ∙ told-refused (getD ws 0 0) _ f
 
 -- ---- the bytes

@@ -2,8 +2,8 @@
 mod texts;
 
 ghost use mathlib.Core.Path.{_≡_};
-ghost use lib.ListN.{length, replicate};
-ghost use Prim.Native.Nat.{_*_, _≤_};
+ghost use lib.ListN.{replicate};
+ghost use Prim.Native.Nat.{_≤_};
 ghost use Rattle.rules.specs.Descriptions.{mostBoards};
 ghost use Rattle.rules.specs.Search.{plainOrder};
 ghost use Rattle.rules.specs.Calls.{searching};
@@ -15,10 +15,10 @@ use crate::texts::put_heading;
 use crate::texts::put_pairs;
 use crate::texts::put_refusal;
 use answers::limits::MOST_WORDS;
-use answers::rooms::table_room;
 use answers::rooms::words_room;
 use answers::widths::word_number;
 use puts::put_text;
+use relations::full_room;
 
 // The bytes of a page, used or not.
 pub const PAGE_BYTES: usize = 1024;
@@ -42,12 +42,11 @@ fn blank() -> [u8; PAGE_BYTES]
     [0; PAGE_BYTES]
 }
 
-// Searches a full table of v boards, and puts what is printed for that search.
+// Searches the full table of v boards that it is lent, and puts what is printed for that search.
 fn put_solved(text: &mut [u8], words: &[u16], v: usize, table: &mut [u8]) -> usize
-    requires { ⌜ (1 ≤ v) × (v ≤ mostBoards) × (length (now table) ≡ v * v) × HasRoom (now text) 0 (told v (searching plainOrder (now words) (filled v) budget)) ⌝ }
+    requires { ⌜ (v ≤ mostBoards) × (now table ≡ filled v) × HasRoom (now text) 0 (told v (searching plainOrder (now words) (filled v) budget)) ⌝ }
     ensures { λ n. ⌜ Put (now (text .entry)) 0 (told v (searching plainOrder (now (words .entry)) (filled v) budget)) (now (text .exit)) n ⌝ }
 {
-    solver::fresh(v, table);
     let found = solver::search(words, table, BUDGET);
     if found.number != 0 {
         return put_refusal(text, found.number);
@@ -67,7 +66,7 @@ fn put_words(text: &mut [u8], words: &[u16]) -> usize
     }
     let v = word_number(words[0]);
     let n = v * v;
-    let mut table = table_room();
+    let mut table = full_room();
     put_solved(text, words, v, &mut table[..n])
 }
 

@@ -5,6 +5,8 @@ use Prim.Native.Nat.{ℕ, _<_}
 use lib.Seq.{ext-getD}
 use Rattle.contracts.specs.Contracts.{OneResult}
 use Rattle.relations.specs.Turning.{Converses}
+use Rattle.relations.proofs.full_room.Kinds as full-room-kinds
+use Rattle.relations.proofs.full_room.Reads as full-room
 use Rattle.relations.proofs.meet.Kinds as meet-kinds
 use Rattle.relations.proofs.meet.Reads as meet
 use Rattle.relations.proofs.join.Kinds as join-kinds
@@ -19,6 +21,9 @@ use Rattle.relations.proofs.size.Kinds as size-kinds
 use Rattle.relations.proofs.size.Reads as size
 use Rattle.relations.proofs.single.Kinds as single-kinds
 use Rattle.relations.proofs.single.Reads as single
+
+pub full-room-determined : OneResult 0 full-room-kinds.ps full-room-kinds.r full-room.Asked full-room.Learnt
+full-room-determined κs a asked x y d e p q = p ∙ sym q
 
 pub meet-determined : OneResult 0 meet-kinds.ps meet-kinds.r meet.Asked meet.Learnt
 meet-determined κs a asked x y d e p q = p ∙ sym q

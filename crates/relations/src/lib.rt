@@ -1,8 +1,11 @@
 // Sets of relations between two boards as bytes, a bit for each relation: their operations.
 ghost use mathlib.Core.Path.{_≡_};
 ghost use Prim.Native.Nat.{_^_, _<_};
-ghost use Rattle.rules.specs.Relations.{relations, setLimit, meet, join, complement, converse, size};
+ghost use lib.ListN.{replicate};
+ghost use Rattle.rules.specs.Descriptions.{mostCells};
+ghost use Rattle.rules.specs.Relations.{relations, setLimit, full, meet, join, complement, converse, size};
 ghost use Rattle.relations.specs.Turning.{Converses};
+use answers::limits::MOST_CELLS;
 use answers::widths::byte_number;
 
 // The four relations, each as a set of one: same board, above, below, side.
@@ -51,6 +54,13 @@ const CONVERSES: [u8; SETS] = [
     14, // ABS
     15, // EABS
 ];
+
+// Room for the cells of a table, of which nothing is known yet: each holds all relations.
+pub fn full_room() -> [u8; MOST_CELLS]
+    ensures { λ r. ⌜ r ≡ replicate mostCells full ⌝ }
+{
+    [FULL; MOST_CELLS]
+}
 
 // The relations that both sets have.
 pub fn meet(x: u8, y: u8) -> u8

@@ -7,6 +7,7 @@ use mathlib.Core.List.{List, [], _∷_}
 use Prim.Native.Nat.{ℕ, suc, _+_, _*_, _≤_, _<_}
 use native.Mathlib.Nat.{mul-le-mul, mul-suc}
 use native.Mathlib.Omega.{arith}
+use borrow.Author.Tests.{eq-eqb}
 use lib.Dec.{T, eqb, ltb, eqb→eq, eqb-refl, ltb→lt, lt→ltb}
 use lib.Pow.{pow-pos}
 use lib.ListN.{length, getD}
@@ -16,7 +17,7 @@ use Rattle.rules.specs.Tables.{Table, Inside, cell, at, emptied, total}
 use Rattle.rules.specs.Arrangements.{Arrangement}
 use Rattle.rules.specs.Closed.{strikes}
 use Rattle.rules.specs.Closing.{rules}
-use Rattle.rules.specs.Calls.{Outcome, refuse, wellFormed, admitted, given, idle, arranged}
+use Rattle.rules.specs.Calls.{Outcome, refuse, hasCells, wellFormed, admitted, given, idle, arranged}
 use Rattle.rules.proofs.Tests.{clash, true-T, T-true, T-false, and-T, T-and-left, T-and-right, count-most}
 use Rattle.rules.proofs.Sets.{within-lies, lies-within, size-one, size-single, size-pos, some-member}
 use Rattle.rules.proofs.Members.{each-of-in, each-of-out, each-of-places, member-at, everywhere}
@@ -45,37 +46,42 @@ wellFormed-table v t h =
         ltb→lt (getD t k 0) setLimit
         (each-of-out (λ x. ltb x setLimit) t (T-and-right (eqb (length t) (v * v)) (eachOf (λ x. ltb x setLimit) t) h) (getD t k 0) (member-at t k l))
 
--- ---- what comes before the rest of a call
+pub cells-hasCells : (v : ℕ) (t : List ℕ) → length t ≡ v * v → T (hasCells v t)
+cells-hasCells v t e = true-T (eq-eqb (length t) (v * v) e)
 
-module _ (ws t : List ℕ) where
+pub hasCells-cells : (v : ℕ) (t : List ℕ) → T (hasCells v t) → length t ≡ v * v
+hasCells-cells v t h = eqb→eq (length t) (v * v) h
+
+-- ---- what comes before the rest of a call, whatever 6 asks for
+
+module _ (asks : ℕ → List ℕ → Bool) (ws t : List ℕ) where
   -- the table is looked at once the description has been read
   abbrev looked : Reading Sheet → Reading Sheet
-  looked r = next r (λ s. need 6 0 (wellFormed (s .boards) t) (good s))
+  looked r = next r (λ s. need 6 0 (asks (s .boards) t) (good s))
 
-  pub admitted-refused : (n k : ℕ) → read ws ≡ refused n k → admitted ws t ≡ refused n k
+  pub admitted-refused : (n k : ℕ) → read ws ≡ refused n k → admitted asks ws t ≡ refused n k
   unfolding admitted
   admitted-refused n k e = ap looked e
 
   module _ (s : Sheet) (means : read ws ≡ good s) where
-    pub admitted-no-table : (Table (s .boards) t → ⊥) → admitted ws t ≡ refused 6 0
+    pub admitted-no-table : (T (asks (s .boards) t) → ⊥) → admitted asks ws t ≡ refused 6 0
     unfolding admitted
-    admitted-no-table g =
-        ap looked means ∙ ap (λ (b : Bool). need 6 0 b (good s)) (T-false {b = wellFormed (s .boards) t} (λ a. g (wellFormed-table (s .boards) t a)))
+    admitted-no-table g = ap looked means ∙ ap (λ (b : Bool). need 6 0 b (good s)) (T-false {b = asks (s .boards) t} g)
 
-    pub admitted-good : Table (s .boards) t → admitted ws t ≡ good s
+    pub admitted-good : T (asks (s .boards) t) → admitted asks ws t ≡ good s
     unfolding admitted
-    admitted-good h = ap looked means ∙ ap (λ (b : Bool). need 6 0 b (good s)) (T-true {b = wellFormed (s .boards) t} (table-wellFormed (s .boards) t h))
+    admitted-good h = ap looked means ∙ ap (λ (b : Bool). need 6 0 b (good s)) (T-true {b = asks (s .boards) t} h)
 
   -- what is known of what was admitted
-  pub admitted-out : (s : Sheet) → admitted ws t ≡ good s → (read ws ≡ good s) × Table (s .boards) t
+  pub admitted-out : (s : Sheet) → admitted asks ws t ≡ good s → (read ws ≡ good s) × T (asks (s .boards) t)
   unfolding admitted
   admitted-out s p = by (read ws) refl p
     where
-      by : (r : Reading Sheet) → read ws ≡ r → looked r ≡ good s → (r ≡ good s) × Table (s .boards) t
-      by (good u) e q = formed (wellFormed (u .boards) t) refl q
+      by : (r : Reading Sheet) → read ws ≡ r → looked r ≡ good s → (r ≡ good s) × T (asks (s .boards) t)
+      by (good u) e q = formed (asks (u .boards) t) refl q
         where
-          formed : (b : Bool) → wellFormed (u .boards) t ≡ b → need 6 0 b (good u) ≡ good s → (good u ≡ good s) × Table (s .boards) t
-          formed true f q = (q, let same : u ≡ s = cc in subst (λ (s : Sheet). Table (s .boards) t) same (wellFormed-table (u .boards) t (true-T f)))
+          formed : (b : Bool) → asks (u .boards) t ≡ b → need 6 0 b (good u) ≡ good s → (good u ≡ good s) × T (asks (s .boards) t)
+          formed true f q = (q, let same : u ≡ s = cc in subst (λ (s : Sheet). T (asks (s .boards) t)) same (true-T f))
           formed false f q = clash (cc)
       by (refused n k) e q = clash (cc)
 
@@ -84,16 +90,16 @@ module _ (ws t : List ℕ) where
     by-reading : Reading Sheet → Outcome L
     by-reading r = given r l f
 
-    pub given-refused : (n k : ℕ) → read ws ≡ refused n k → given (admitted ws t) l f ≡ refuse n k l
+    pub given-refused : (n k : ℕ) → read ws ≡ refused n k → given (admitted asks ws t) l f ≡ refuse n k l
     unfolding by-reading
     given-refused n k e = ap by-reading (admitted-refused n k e)
 
     module _ (s : Sheet) (means : read ws ≡ good s) where
-      pub given-no-table : (Table (s .boards) t → ⊥) → given (admitted ws t) l f ≡ refuse 6 0 l
+      pub given-no-table : (T (asks (s .boards) t) → ⊥) → given (admitted asks ws t) l f ≡ refuse 6 0 l
       unfolding by-reading
       given-no-table g = ap by-reading (admitted-no-table s means g)
 
-      pub given-good : Table (s .boards) t → given (admitted ws t) l f ≡ f s
+      pub given-good : T (asks (s .boards) t) → given (admitted asks ws t) l f ≡ f s
       unfolding by-reading
       given-good h = ap by-reading (admitted-good s means h)
 

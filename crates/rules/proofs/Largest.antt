@@ -115,6 +115,13 @@ pub largest-unique : {s : Sheet} {t u w : List ℕ} → Largest s t u → Larges
 largest-unique {u = u} {w = w} a b =
     inside-antisym (a .table) (b .table) (b .largest u (a .table) (a .closed) (a .inside)) (a .largest w (b .table) (b .closed) (b .inside))
 
+-- a closed table is the largest one inside itself, so closing again leaves the same
+pub closing-again : (s : Sheet) (t : List ℕ) → Table (s .boards) t → closing s (closing s t) ≡ closing s t
+closing-again s t h =
+    let l = closing-largest s t h in
+    largest-unique (closing-largest s (closing s t) (l .table))
+    (record { table = l .table; closed = l .closed; inside = inside-refl (closing s t); largest = λ w k c i. i })
+
 -- ---- empty cells
 
 -- the table with nothing in it

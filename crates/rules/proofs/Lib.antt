@@ -6,6 +6,7 @@ pub mod Composition
 pub mod Entries
 pub mod Members
 pub mod Inside
+pub mod Full
 pub mod Strikes
 pub mod Rules
 pub mod Largest
@@ -35,5 +36,4 @@ pub mod Order
 pub mod Search
 pub mod Calls
 pub mod Called
-pub mod Freshness
 pub mod Shown

@@ -52,8 +52,8 @@ module _ {w : Sheet} {l : List ℕ} where
     below : Inside l u
     below = h .largest l (among-table a (g .table)) (among-closed a (g .closed)) (g .inside)
 
-    clashes : emptied u ≡ true → emptied l ≡ true
-    clashes e = T-true (emptied-inside (g .table) below (true-T e))
+    pub stage-clash : emptied u ≡ true → emptied l ≡ true
+    stage-clash e = T-true (emptied-inside (g .table) below (true-T e))
 
     -- and it is the single closing of what the stage leaves
     onward : Largest w u l
@@ -76,7 +76,7 @@ module _ {w : Sheet} {l : List ℕ} where
   same (s ∷ []) a t u c g r = go (emptied (r .0)) refl (r .3 .0) (r .3 .1) (r .4)
     where
       go : (b : Bool) → emptied (r .0) ≡ b → u ≡ left b t (r .0) → r .1 ≡ false → c ≡ (b || r .1) → Same l u c
-      go true e p q z = record { clash = clashes (a .0) g (r .2) e ∙ sym z; table = λ n. true-false (clashes (a .0) g (r .2) e) n }
+      go true e p q z = record { clash = stage-clash (a .0) g (r .2) e ∙ sym z; table = λ n. true-false (stage-clash (a .0) g (r .2) e) n }
       go false e p q z =
           let f = whole (a .0) g (r .2) (a .1) in
           record { clash = ap emptied (sym f) ∙ e ∙ sym (z ∙ q); table = λ n. p ∙ f }
@@ -84,7 +84,7 @@ module _ {w : Sheet} {l : List ℕ} where
     where
       go : (b : Bool) → emptied (r .0) ≡ b → Run (s′ ∷ ss) (left b t (r .0)) u (r .1) → c ≡ (b || r .1)
           → ((t : List ℕ) (d : Bool) → Largest w t l → Run (s′ ∷ ss) t u d → Same l u d) → Same l u c
-      go true e k z f = record { clash = clashes (a .0) g (r .2) e ∙ sym z; table = λ n. true-false (clashes (a .0) g (r .2) e) n }
+      go true e k z f = record { clash = stage-clash (a .0) g (r .2) e ∙ sym z; table = λ n. true-false (stage-clash (a .0) g (r .2) e) n }
       go false e k z f =
           let m = f (r .0) (r .1) (onward (a .0) g (r .2)) k in record { clash = m .clash ∙ sym z; table = m .table }
 
@@ -95,3 +95,9 @@ module _ {w : Sheet} {l : List ℕ} where
   -- the table after the last stage is that of the single closing, unless it is contradictory
   pub stages-table : (ss : List Sheet) → Stages w ss → (t u : List ℕ) (c : Bool) → Largest w t l → Run ss t u c → emptied l ≡ false → u ≡ l
   stages-table ss a t u c g r = same ss a t u c g r .table
+
+-- the lines of the first stage are among those of the whole
+pub first-among : {w s : Sheet} (ss : List Sheet) → Stages w (s ∷ ss) → Among s w
+unfolding Stages
+first-among [] a = a .0
+first-among (s ∷ ss) a = a .0

@@ -3,10 +3,10 @@
 use mathlib.Core.Bool.{Bool, true, false, _&&_}
 use mathlib.Core.List.{List}
 use Prim.Native.Nat.{ℕ, _*_}
-use lib.Dec.{leb, ltb, eqb}
+use lib.Dec.{ltb, eqb}
 use lib.ListN.{length}
 use Rattle.rules.specs.Relations.{eachOf, setLimit, size, within}
-use Rattle.rules.specs.Descriptions.{Sheet, Reading, good, refused, need, next, read, mostBoards}
+use Rattle.rules.specs.Descriptions.{Sheet, Reading, good, refused, need, next, read}
 use Rattle.rules.specs.Tables.{cell, filled, emptied}
 use Rattle.rules.specs.Closed.{strikes}
 use Rattle.rules.specs.Closing.{Rule, rules, closing}
@@ -26,13 +26,17 @@ module _ {L : Type 0} where
   abbrev pub succeed : ℕ → L → Outcome L
   succeed c l = record { number = 0; count = c; lent = l }
 
--- 6: the table hasn't V times V cells, or a cell is above 15
-unfoldable pub wellFormed : ℕ → List ℕ → Bool
-wellFormed v t = eqb (length t) (v * v) && eachOf (λ x. ltb x setLimit) t
+-- what 6 asks for in an opening: the table has V times V cells
+abbrev pub hasCells : ℕ → List ℕ → Bool
+hasCells v t = eqb (length t) (v * v)
 
--- the description that is meant, once 1 to 5, then 11 and then 6, which has no place, have been looked for
-unfoldable pub admitted : List ℕ → List ℕ → Reading Sheet
-admitted ws t = next (read ws) (λ s. need 6 0 (wellFormed (s .boards) t) (good s))
+-- what 6 asks for in every other call: the table has V times V cells, and none is above 15
+unfoldable pub wellFormed : ℕ → List ℕ → Bool
+wellFormed v t = hasCells v t && eachOf (λ x. ltb x setLimit) t
+
+-- the description that is meant, once 1 to 5, then 11 and then 6 have been looked for; 6, by what it asks for, has no place
+unfoldable pub admitted : (ℕ → List ℕ → Bool) → List ℕ → List ℕ → Reading Sheet
+admitted asks ws t = next (read ws) (λ s. need 6 0 (asks (s .boards) t) (good s))
 
 -- what is lent as it came where the reading was refused, with the place for a count, or what comes of what was read
 abbrev pub given : {X L : Type 0} → Reading X → L → (X → Outcome L) → Outcome L
@@ -43,18 +47,17 @@ given (refused n k) l f = refuse n k l
 unfoldable pub reading : List ℕ → Outcome (Unit {0})
 reading ws = given (read ws) tt (λ s. succeed 0 tt)
 
--- the fresh table: filled with 15; 1 where V is out of range, then 6 for a wrong number of cells
-unfoldable pub fresh : ℕ → List ℕ → Outcome (List ℕ)
-fresh v t =
-    elim (leb 1 v && leb v mostBoards) [
-      | true ↦ elim (eqb (length t) (v * v)) [ true ↦ succeed 0 (filled v) | false ↦ refuse 6 0 t ]
-      | false ↦ refuse 1 0 t
-    ]
+-- the table t closed into the lent one: the relations struck from t; 7 where the largest closed table has an empty cell
+abbrev pub closeInto : List ℕ → Sheet → List ℕ → Outcome (List ℕ)
+closeInto lent s t = let u = closing s t in elim (emptied u) [ true ↦ refuse 7 0 lent | false ↦ succeed (strikes t u) u ]
 
--- closing: the relations struck; 7 where the largest closed table has an empty cell
+-- opening: the full table closed into the lent one, which may hold anything
+unfoldable pub opening : List ℕ → List ℕ → Outcome (List ℕ)
+opening ws t = given (admitted hasCells ws t) t (λ s. closeInto t s (filled (s .boards)))
+
+-- closing: the lent table closed
 unfoldable pub close : List ℕ → List ℕ → Outcome (List ℕ)
-close ws t =
-    given (admitted ws t) t (λ s. let u = closing s t in elim (emptied u) [ true ↦ refuse 7 0 t | false ↦ succeed (strikes t u) u ])
+close ws t = given (admitted wellFormed ws t) t (λ s. closeInto t s t)
 
 -- searching: the tries made; 8 where there is none, with the tries made; 9 where the budget ran out, with the budget
 abbrev pub answer : List ℕ → Capped → Outcome (List ℕ)
@@ -63,7 +66,7 @@ answer t (ended (none n)) = refuse 8 n t
 answer t (ranOut b) = refuse 9 b t
 
 unfoldable pub searching : List ℕ → List ℕ → List ℕ → ℕ → Outcome (List ℕ)
-searching ord ws t b = given (admitted ws t) t (λ s. answer t (cap b (search (closing s) ord (s .boards) t)))
+searching ord ws t b = given (admitted wellFormed ws t) t (λ s. answer t (cap b (search (closing s) ord (s .boards) t)))
 
 -- the rule strikes nothing, as a test
 abbrev pub idle : ℕ → List ℕ → Rule → Bool
@@ -75,4 +78,4 @@ arranged s t = eachOf (λ x. eqb (size x) 1) t && eachOf (idle (s .boards) t) (r
 
 -- the check says yes exactly if the table is an arrangement: 10 where it is none
 unfoldable pub check : List ℕ → List ℕ → Outcome (List ℕ)
-check ws t = given (admitted ws t) t (λ s. elim (arranged s t) [ true ↦ succeed 0 t | false ↦ refuse 10 0 t ])
+check ws t = given (admitted wellFormed ws t) t (λ s. elim (arranged s t) [ true ↦ succeed 0 t | false ↦ refuse 10 0 t ])

@@ -2,14 +2,14 @@
 -- Assumes nothing.
 use mathlib.Core.Path.{_≡_}
 use mathlib.Core.List.{List, [], _∷_, _++_}
-use Prim.Native.Nat.{ℕ}
+use Prim.Native.Nat.{ℕ, _*_}
 use lib.ListN.{length, replicate}
 use Rattle.rules.specs.Relations.{same, above, below, side, compose}
 use Rattle.rules.specs.Expressions.{value, expression}
 use Rattle.rules.specs.Descriptions.{KindLine, firstDisagreeing, describe}
 use Rattle.rules.specs.Tables.{filled}
 use Rattle.rules.specs.Search.{plainOrder}
-use Rattle.rules.specs.Calls.{refuse, succeed, reading, close, searching, check}
+use Rattle.rules.specs.Calls.{refuse, succeed, reading, opening, close, searching, check}
 
 pub data Case : Type 0 where
   -- sets x and y compose to z
@@ -20,12 +20,18 @@ pub data Case : Type 0 where
   answers : (words : List ℕ) (number place : ℕ) → Case
   -- of these kind lines, line n is the first that disagrees with an earlier one
   disagreesFirst : (lines : List KindLine) (n : ℕ) → Case
-  -- closing, searching with this budget and checking refuse this description and table with this number and this place, and leave the table
+  -- opening, closing, searching with this budget and checking refuse this description and table with this number and this place, and leave the table
   refuses : (words table : List ℕ) (budget number place : ℕ) → Case
-  -- closing the full table strikes so many relations and leaves this table
-  closes : (v : ℕ) (lines kinds : List (List ℕ)) (struck : ℕ) (table : List ℕ) → Case
-  -- the full table closes to a contradiction
-  clashes : (v : ℕ) (lines kinds : List (List ℕ)) → Case
+  -- closing, searching with this budget and checking refuse this table with 6 and leave it, since a cell is no set
+  refusesContents : (v : ℕ) (lines kinds : List (List ℕ)) (table : List ℕ) (budget : ℕ) → Case
+  -- opening over these old contents strikes so many relations and leaves this table
+  opens : (v : ℕ) (lines kinds : List (List ℕ)) (old : List ℕ) (struck : ℕ) (table : List ℕ) → Case
+  -- opening over these old contents is contradictory and leaves them
+  clashes : (v : ℕ) (lines kinds : List (List ℕ)) (old : List ℕ) → Case
+  -- closing this table strikes so many relations and leaves that table
+  closes : (v : ℕ) (lines kinds : List (List ℕ)) (lent : List ℕ) (struck : ℕ) (table : List ℕ) → Case
+  -- closing this table is contradictory and leaves it
+  clashesIn : (v : ℕ) (lines kinds : List (List ℕ)) (lent : List ℕ) → Case
   -- the search in the full table finds this after so many tries, with just this budget
   finds : (v : ℕ) (lines kinds : List (List ℕ)) (tries : ℕ) (table : List ℕ) → Case
   -- the search in the full table finds nothing, after so many tries, with just this budget
@@ -42,9 +48,13 @@ CaseHolds (composes x y z) = compose x y ≡ z
 CaseHolds (means ws x) = expression ws ≡ value x []
 CaseHolds (answers ws n k) = reading ws ≡ refuse n k tt
 CaseHolds (disagreesFirst ks n) = firstDisagreeing [] ks ≡ n
-CaseHolds (refuses ws t b n k) = close ws t ∷ searching plainOrder ws t b ∷ check ws t ∷ [] ≡ replicate 3 (refuse n k t)
-CaseHolds (closes v ls ks n u) = close (describe v ls ks) (filled v) ≡ succeed n u
-CaseHolds (clashes v ls ks) = close (describe v ls ks) (filled v) ≡ refuse 7 0 (filled v)
+CaseHolds (refuses ws t b n k) = opening ws t ∷ close ws t ∷ searching plainOrder ws t b ∷ check ws t ∷ [] ≡ replicate 4 (refuse n k t)
+CaseHolds (refusesContents v ls ks t b) =
+    let ws = describe v ls ks in close ws t ∷ searching plainOrder ws t b ∷ check ws t ∷ [] ≡ replicate 3 (refuse 6 0 t)
+CaseHolds (opens v ls ks t n u) = opening (describe v ls ks) t ≡ succeed n u
+CaseHolds (clashes v ls ks t) = opening (describe v ls ks) t ≡ refuse 7 0 t
+CaseHolds (closes v ls ks t n u) = close (describe v ls ks) t ≡ succeed n u
+CaseHolds (clashesIn v ls ks t) = close (describe v ls ks) t ≡ refuse 7 0 t
 CaseHolds (finds v ls ks n u) = searching plainOrder (describe v ls ks) (filled v) n ≡ succeed n u
 CaseHolds (exhausts v ls ks n) = searching plainOrder (describe v ls ks) (filled v) n ≡ refuse 8 n (filled v)
 CaseHolds (runsOut v ls ks b) = searching plainOrder (describe v ls ks) (filled v) b ≡ refuse 9 b (filled v)
@@ -80,6 +90,10 @@ feeds p ways = feedsAs 7 p ways
 abbrev pub panelOf : ℕ → ℕ → KindLine
 panelOf code n = record { p = 0; code = code; ways = replicate n 0 }
 
+-- old contents of a table of v boards, of which no cell is a set
+abbrev pub stale : ℕ → List ℕ
+stale v = replicate (v * v) 200
+
 abbrev pub cases : List Case
 cases =
     -- sets 2 and 4 compose to 7; 8 and 2 to 8; 3 and 3 to 3; 0 and 15 to 0
@@ -94,43 +108,43 @@ cases =
     -- expression 4 0 is refused with 5; so is 0 0
     ∷ answers (describe 1 ((0 ∷ 0 ∷ 2 ∷ 4 ∷ 0 ∷ []) ∷ []) []) 5 11
     ∷ answers (describe 1 ((0 ∷ 0 ∷ 2 ∷ 0 ∷ 0 ∷ []) ∷ []) []) 5 10
-    -- V = 1, no lines: closing strikes 3; arrangement after 0 tries
-    ∷ closes 1 [] [] 3 (1 ∷ [])
+    -- V = 1, no lines: opening strikes 3; arrangement after 0 tries
+    ∷ opens 1 [] [] (stale 1) 3 (1 ∷ [])
     ∷ finds 1 [] [] 0 (1 ∷ [])
-    -- V = 2, no lines: closing strikes 6; 1 try; 0 = 1
-    ∷ closes 2 [] [] 6 (1 ∷ 15 ∷ 15 ∷ 1 ∷ [])
+    -- V = 2, no lines: opening strikes 6; 1 try; 0 = 1
+    ∷ opens 2 [] [] (stale 2) 6 (1 ∷ 15 ∷ 15 ∷ 1 ∷ [])
     ∷ finds 2 [] [] 1 (1 ∷ 1 ∷ 1 ∷ 1 ∷ [])
-    -- V = 2, 0 at or above 1: closing strikes 10; 1 try. Budget 0 gives 9, budget 1 gives 0 = 1
-    ∷ closes 2 (atOrAbove 0 1 ∷ []) [] 10 (1 ∷ 3 ∷ 5 ∷ 1 ∷ [])
+    -- V = 2, 0 at or above 1: opening strikes 10; 1 try. Budget 0 gives 9, budget 1 gives 0 = 1
+    ∷ opens 2 (atOrAbove 0 1 ∷ []) [] (stale 2) 10 (1 ∷ 3 ∷ 5 ∷ 1 ∷ [])
     ∷ runsOut 2 (atOrAbove 0 1 ∷ []) [] 0
     ∷ finds 2 (atOrAbove 0 1 ∷ []) [] 1 (1 ∷ 1 ∷ 1 ∷ 1 ∷ [])
-    -- the same with 1 at or above 0 as well: closing strikes 12; 0 tries; 0 = 1
-    ∷ closes 2 (atOrAbove 0 1 ∷ atOrAbove 1 0 ∷ []) [] 12 (1 ∷ 1 ∷ 1 ∷ 1 ∷ [])
+    -- the same with 1 at or above 0 as well: opening strikes 12; 0 tries; 0 = 1
+    ∷ opens 2 (atOrAbove 0 1 ∷ atOrAbove 1 0 ∷ []) [] (stale 2) 12 (1 ∷ 1 ∷ 1 ∷ 1 ∷ [])
     ∷ finds 2 (atOrAbove 0 1 ∷ atOrAbove 1 0 ∷ []) [] 0 (1 ∷ 1 ∷ 1 ∷ 1 ∷ [])
-    -- V = 3, 0 above 2, 1 above 2: cell (0, 1) closes to 7. With 0 side 1 added: contradictory
-    ∷ closes 3 (is 0 above 2 ∷ is 1 above 2 ∷ []) [] 23 (1 ∷ 7 ∷ 2 ∷ 7 ∷ 1 ∷ 2 ∷ 4 ∷ 4 ∷ 1 ∷ [])
-    ∷ clashes 3 (is 0 above 2 ∷ is 1 above 2 ∷ is 0 side 1 ∷ []) []
+    -- V = 3, 0 above 2, 1 above 2: cell (0, 1) opens to 7. With 0 side 1 added: contradictory
+    ∷ opens 3 (is 0 above 2 ∷ is 1 above 2 ∷ []) [] (stale 3) 23 (1 ∷ 7 ∷ 2 ∷ 7 ∷ 1 ∷ 2 ∷ 4 ∷ 4 ∷ 1 ∷ [])
+    ∷ clashes 3 (is 0 above 2 ∷ is 1 above 2 ∷ is 0 side 1 ∷ []) [] (stale 3)
     ∷ exhausts 3 (is 0 above 2 ∷ is 1 above 2 ∷ is 0 side 1 ∷ []) [] 0
     -- 0 has ways 1 and 1: contradictory
-    ∷ clashes 2 [] (feeds 0 (1 ∷ 1 ∷ []) ∷ [])
+    ∷ clashes 2 [] (feeds 0 (1 ∷ 1 ∷ []) ∷ []) (stale 2)
     ∷ exhausts 2 [] (feeds 0 (1 ∷ 1 ∷ []) ∷ []) 0
     -- 0 has no ways, 0 above 1: contradictory
-    ∷ clashes 2 (is 0 above 1 ∷ []) (feeds 0 [] ∷ [])
+    ∷ clashes 2 (is 0 above 1 ∷ []) (feeds 0 [] ∷ []) (stale 2)
     ∷ exhausts 2 (is 0 above 1 ∷ []) (feeds 0 [] ∷ []) 0
-    -- V = 4, 0 has ways 1 and 2, 0 above 3, 1 side 3: cell (2, 3) closes to 3; 1 try; 2 = 3
-    ∷ closes 4 (is 0 above 3 ∷ is 1 side 3 ∷ []) (feeds 0 (1 ∷ 2 ∷ []) ∷ []) 46
+    -- V = 4, 0 has ways 1 and 2, 0 above 3, 1 side 3: cell (2, 3) opens to 3; 1 try; 2 = 3
+    ∷ opens 4 (is 0 above 3 ∷ is 1 side 3 ∷ []) (feeds 0 (1 ∷ 2 ∷ []) ∷ []) (stale 4) 46
     (1 ∷ 2 ∷ 2 ∷ 2 ∷ 4 ∷ 1 ∷ 8 ∷ 8 ∷ 4 ∷ 8 ∷ 1 ∷ 3 ∷ 4 ∷ 8 ∷ 5 ∷ 1 ∷ [])
     ∷ finds 4 (is 0 above 3 ∷ is 1 side 3 ∷ []) (feeds 0 (1 ∷ 2 ∷ []) ∷ []) 1
     (1 ∷ 2 ∷ 2 ∷ 2 ∷ 4 ∷ 1 ∷ 8 ∷ 8 ∷ 4 ∷ 8 ∷ 1 ∷ 1 ∷ 4 ∷ 8 ∷ 1 ∷ 1 ∷ [])
-    -- V = 4, 0 has way 1, 2 has way 3, same code, 1 = 3: closes to 0 = 2 with no try
-    ∷ closes 4 (is 1 same 3 ∷ []) (feeds 0 (1 ∷ []) ∷ feeds 2 (3 ∷ []) ∷ []) 48
+    -- V = 4, 0 has way 1, 2 has way 3, same code, 1 = 3: opens to 0 = 2 with no try
+    ∷ opens 4 (is 1 same 3 ∷ []) (feeds 0 (1 ∷ []) ∷ feeds 2 (3 ∷ []) ∷ []) (stale 4) 48
     (1 ∷ 2 ∷ 1 ∷ 2 ∷ 4 ∷ 1 ∷ 4 ∷ 1 ∷ 1 ∷ 2 ∷ 1 ∷ 2 ∷ 4 ∷ 1 ∷ 4 ∷ 1 ∷ [])
     ∷ finds 4 (is 1 same 3 ∷ []) (feeds 0 (1 ∷ []) ∷ feeds 2 (3 ∷ []) ∷ []) 0
     (1 ∷ 2 ∷ 1 ∷ 2 ∷ 4 ∷ 1 ∷ 4 ∷ 1 ∷ 1 ∷ 2 ∷ 1 ∷ 2 ∷ 4 ∷ 1 ∷ 4 ∷ 1 ∷ [])
     -- Not marked P. Two boards that are each beside a third may be one board: 0 side 2, 1 side 2
-    ∷ closes 3 (is 0 side 2 ∷ is 1 side 2 ∷ []) [] 21 (1 ∷ 15 ∷ 8 ∷ 15 ∷ 1 ∷ 8 ∷ 8 ∷ 8 ∷ 1 ∷ [])
+    ∷ opens 3 (is 0 side 2 ∷ is 1 side 2 ∷ []) [] (stale 3) 21 (1 ∷ 15 ∷ 8 ∷ 15 ∷ 1 ∷ 8 ∷ 8 ∷ 8 ∷ 1 ∷ [])
     -- a panel's ways are all of its ways: 0 has way 1, and 2 cannot be below 0 and beside 1
-    ∷ clashes 3 (is 0 above 2 ∷ is 1 side 2 ∷ []) (feeds 0 (1 ∷ []) ∷ [])
+    ∷ clashes 3 (is 0 above 2 ∷ is 1 side 2 ∷ []) (feeds 0 (1 ∷ []) ∷ []) (stale 3)
     ∷ exhausts 3 (is 0 above 2 ∷ is 1 side 2 ∷ []) (feeds 0 (1 ∷ []) ∷ []) 0
     -- the check accepts 0 = 1 for "0 at or above 1", and rejects it for "0 above 1"; it rejects a table that is not single
     ∷ accepts 2 (atOrAbove 0 1 ∷ []) [] (1 ∷ 1 ∷ 1 ∷ 1 ∷ [])
@@ -232,17 +246,39 @@ cases =
     -- every call says where, also if its table is no table
     ∷ refuses (describe 2 (is 0 same 2 ∷ []) []) (16 ∷ []) 0 4 7
     ∷ refuses (describe 2 ((0 ∷ 1 ∷ 2 ∷ 4 ∷ 0 ∷ []) ∷ is 0 same 1 ∷ []) []) (filled 2) 0 5 11
+    -- Make a table and close it in a single call (02, request 4). Old contents of any sort, empty cells, no sets and a tree among them, give the same table
+    ∷ opens 2 [] [] (0 ∷ 0 ∷ 0 ∷ 0 ∷ []) 6 (1 ∷ 15 ∷ 15 ∷ 1 ∷ [])
+    ∷ opens 2 [] [] (0 ∷ 255 ∷ 15 ∷ 16 ∷ []) 6 (1 ∷ 15 ∷ 15 ∷ 1 ∷ [])
+    ∷ opens 2 (atOrAbove 0 1 ∷ []) [] (1 ∷ 2 ∷ 4 ∷ 1 ∷ []) 10 (1 ∷ 3 ∷ 5 ∷ 1 ∷ [])
+    ∷ opens 2 (atOrAbove 0 1 ∷ []) [] (filled 2) 10 (1 ∷ 3 ∷ 5 ∷ 1 ∷ [])
+    -- closing looks at them: it strikes from what the cells hold, is contradictory for an empty one, and refuses what is no set with 6, as search and check do
+    ∷ closes 2 (atOrAbove 0 1 ∷ []) [] (filled 2) 10 (1 ∷ 3 ∷ 5 ∷ 1 ∷ [])
+    ∷ closes 2 (atOrAbove 0 1 ∷ []) [] (1 ∷ 2 ∷ 4 ∷ 1 ∷ []) 0 (1 ∷ 2 ∷ 4 ∷ 1 ∷ [])
+    ∷ clashesIn 2 [] [] (1 ∷ 0 ∷ 15 ∷ 1 ∷ [])
+    ∷ refusesContents 2 [] [] (0 ∷ 255 ∷ 15 ∷ 16 ∷ []) 0
+    -- in stages: what was opened with one line has 2 relations more than with both, and closing it again strikes nothing
+    ∷ closes 2 (atOrAbove 0 1 ∷ []) [] (1 ∷ 3 ∷ 5 ∷ 1 ∷ []) 0 (1 ∷ 3 ∷ 5 ∷ 1 ∷ [])
+    ∷ closes 2 (atOrAbove 0 1 ∷ atOrAbove 1 0 ∷ []) [] (1 ∷ 3 ∷ 5 ∷ 1 ∷ []) 2 (1 ∷ 1 ∷ 1 ∷ 1 ∷ [])
+    -- a contradiction leaves old contents, whatever they are
+    ∷ clashes 2 (is 0 above 1 ∷ is 1 above 0 ∷ []) [] (0 ∷ 255 ∷ 15 ∷ 16 ∷ [])
+    ∷ clashes 2 (is 0 above 1 ∷ is 1 above 0 ∷ []) [] (1 ∷ 1 ∷ 1 ∷ 1 ∷ [])
+    -- 6 for a cell too few or too many, and for none, comes after 1 to 5 and before 7
+    ∷ refuses (describe 2 [] []) (15 ∷ 15 ∷ 15 ∷ []) 0 6 0
+    ∷ refuses (describe 2 [] []) (15 ∷ 15 ∷ 15 ∷ 15 ∷ 15 ∷ []) 0 6 0
+    ∷ refuses (describe 17 [] []) [] 0 1 0
+    ∷ refuses (describe 2 (is 0 same 2 ∷ []) []) [] 0 4 7
+    ∷ refuses (describe 2 (is 0 above 1 ∷ is 1 above 0 ∷ []) []) [] 0 6 0
     ∷ []
 
 -- Larger sites, which take longer to compute.
 abbrev pub larger : List Case
 larger =
     -- panels that are one board have the same ways: 0 has ways 1 and 2, 3 has ways 4 and 5, same code, 0 = 3
-    closes 6 (is 0 same 3 ∷ []) (feeds 0 (1 ∷ 2 ∷ []) ∷ feeds 3 (4 ∷ 5 ∷ []) ∷ []) 108
+    opens 6 (is 0 same 3 ∷ []) (feeds 0 (1 ∷ 2 ∷ []) ∷ feeds 3 (4 ∷ 5 ∷ []) ∷ []) (stale 6) 108
     (1 ∷ 2 ∷ 2 ∷ 1 ∷ 2 ∷ 2 ∷ 4 ∷ 1 ∷ 8 ∷ 4 ∷ 1 ∷ 8 ∷ 4 ∷ 8 ∷ 1 ∷ 4 ∷ 8 ∷ 1
     ∷ 1 ∷ 2 ∷ 2 ∷ 1 ∷ 2 ∷ 2 ∷ 4 ∷ 1 ∷ 8 ∷ 4 ∷ 1 ∷ 8 ∷ 4 ∷ 8 ∷ 1 ∷ 4 ∷ 8 ∷ 1 ∷ [])
     -- and panels with a pair of ways that is not one board are not one board: 1 side 4
-    ∷ closes 6 (is 1 side 4 ∷ []) (feeds 0 (1 ∷ 2 ∷ []) ∷ feeds 3 (4 ∷ 5 ∷ []) ∷ []) 70
+    ∷ opens 6 (is 1 side 4 ∷ []) (feeds 0 (1 ∷ 2 ∷ []) ∷ feeds 3 (4 ∷ 5 ∷ []) ∷ []) (stale 6) 70
     (1 ∷ 2 ∷ 2 ∷ 14 ∷ 10 ∷ 15 ∷ 4 ∷ 1 ∷ 8 ∷ 12 ∷ 8 ∷ 15 ∷ 4 ∷ 8 ∷ 1 ∷ 15 ∷ 15 ∷ 15
     ∷ 14 ∷ 10 ∷ 15 ∷ 1 ∷ 2 ∷ 2 ∷ 12 ∷ 8 ∷ 15 ∷ 4 ∷ 1 ∷ 8 ∷ 15 ∷ 15 ∷ 15 ∷ 4 ∷ 8 ∷ 1 ∷ [])
     -- no arrangement, as only the tries show

@@ -4,8 +4,8 @@ use Rattle.contracts.specs.Contracts.{AsksNothing, OneResult, OneOutcome}
 use Rattle.answers.proofs.Outcomes.{outcome-determined}
 use Rattle.solver.proofs.read.Kinds as read-kinds
 use Rattle.solver.proofs.read.Reads as read
-use Rattle.solver.proofs.fresh.Kinds as fresh-kinds
-use Rattle.solver.proofs.fresh.Reads as fresh
+use Rattle.solver.proofs.«open».Kinds as open-kinds
+use Rattle.solver.proofs.«open».Reads as opens
 use Rattle.solver.proofs.close.Kinds as close-kinds
 use Rattle.solver.proofs.close.Reads as close
 use Rattle.solver.proofs.search.Kinds as search-kinds
@@ -19,11 +19,11 @@ read-asks-nothing κs a = tt
 pub read-determined : OneResult 1 read-kinds.ps read-kinds.r read.Asked read.Learnt
 read-determined κs a asked x y d e p q = outcome-determined x y tt tt (p ∙ sym q) .0
 
-pub fresh-asks-nothing : AsksNothing 1 fresh-kinds.ps fresh.Asked
-fresh-asks-nothing κs a = tt
+pub open-asks-nothing : AsksNothing 2 open-kinds.ps opens.Asked
+open-asks-nothing κs a = tt
 
-pub fresh-determined : OneOutcome 1 fresh-kinds.ps fresh-kinds.r fresh.Asked fresh.Learnt (λ κs e. e .1 .0 .now)
-fresh-determined κs a asked x y d e p q = outcome-determined x y (d .1 .0 .now) (e .1 .0 .now) (p ∙ sym q)
+pub open-determined : OneOutcome 2 open-kinds.ps open-kinds.r opens.Asked opens.Learnt (λ κs e. e .1 .0 .now)
+open-determined κs a asked x y d e p q = outcome-determined x y (d .1 .0 .now) (e .1 .0 .now) (p ∙ sym q)
 
 pub close-asks-nothing : AsksNothing 2 close-kinds.ps close.Asked
 close-asks-nothing κs a = tt

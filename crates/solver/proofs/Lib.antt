@@ -1,3 +1,2 @@
 -- The laws behind the calls.
-pub mod Freshness
 pub mod Determined

@@ -1,17 +1,14 @@
 // The solver's face: the calls, for whatever they are lent. The calls for C, the programs and later crates stand on these and see nothing below.
 ghost use mathlib.Core.Path.{_≡_};
 ghost use Rattle.rules.specs.Search.{plainOrder};
-ghost use Rattle.rules.specs.Calls.{reading, fresh, close, searching, check};
+ghost use Rattle.rules.specs.Calls.{reading, opening, close, searching, check};
 ghost use Rattle.answers.specs.Answers.{outcome};
 use answers::Answer;
-use answers::limits::MOST_BOARDS;
-use answers::refusals::NO_TABLE;
-use answers::refusals::OUT_OF_RANGE;
-use answers::refuse;
 use answers::refuse_at;
 use answers::succeed;
 use headers::HeaderFound;
 use relations::RELATIONS;
+use tables::Asked;
 
 // Reads a description: 0 if it is good, or its first refusal, 1 to 5 or 11, with its place: the index of the first word that breaks the rule or, where words are
 // missing, the place just after those that there are.
@@ -24,19 +21,16 @@ pub fn read(words: &[u16]) -> Answer
     }
 }
 
-// Makes the lent table one of v boards of which nothing is known yet: each cell holds all relations. Refuses a number of boards out of range with 1,
-// then a wrong number of cells with 6, and then leaves the table as it came.
-pub fn fresh(v: usize, table: &mut [u8]) -> Answer
-    ensures { λ a. ⌜ outcome a (now (table .exit)) ≡ fresh v (now (table .entry)) ⌝ }
+// Replaces the lent table, whatever it holds, by the largest closed table inside the full one, and answers how many relations that struck from the full one.
+// Refuses a description with 1 to 5 and 11, and the place, then a wrong number of cells with 6, then with 7 where the largest closed table has an empty cell;
+// and then leaves the table as it came.
+pub fn open(words: &[u16], table: &mut [u8]) -> Answer
+    ensures { λ a. ⌜ outcome a (now (table .exit)) ≡ opening (now (words .entry)) (now (table .entry)) ⌝ }
 {
-    if v < 1 || MOST_BOARDS < v {
-        return refuse(OUT_OF_RANGE, 0);
+    match admitting::admit(words, table, Asked::Cells) {
+        HeaderFound::Good(h) => closing::open_table(h, words, table),
+        HeaderFound::Refused(r) => refuse_at(r),
     }
-    if table.len() != v * v {
-        return refuse(NO_TABLE, 0);
-    }
-    tables::fill(table, relations::FULL);
-    succeed(0)
 }
 
 // Replaces the lent table by the largest closed table inside it, and answers how many relations that struck. Refuses a description with 1 to 5 and 11, and the
@@ -44,7 +38,7 @@ pub fn fresh(v: usize, table: &mut [u8]) -> Answer
 pub fn close(words: &[u16], table: &mut [u8]) -> Answer
     ensures { λ a. ⌜ outcome a (now (table .exit)) ≡ close (now (words .entry)) (now (table .entry)) ⌝ }
 {
-    match opening::admit(words, table) {
+    match admitting::admit(words, table, Asked::Sets) {
         HeaderFound::Good(h) => closing::close_table(h, words, table),
         HeaderFound::Refused(r) => refuse_at(r),
     }
@@ -63,7 +57,7 @@ fn plain_order() -> [u8; RELATIONS]
 pub fn search(words: &[u16], table: &mut [u8], budget: u32) -> Answer
     ensures { λ a. ⌜ outcome a (now (table .exit)) ≡ searching plainOrder (now (words .entry)) (now (table .entry)) budget ⌝ }
 {
-    match opening::admit(words, table) {
+    match admitting::admit(words, table, Asked::Sets) {
         HeaderFound::Good(h) => {
             let order = plain_order();
             search::search_table(h, words, &order, budget, table)
@@ -77,7 +71,7 @@ pub fn search(words: &[u16], table: &mut [u8], budget: u32) -> Answer
 pub fn check(words: &[u16], table: &[u8]) -> Answer
     ensures { λ a. ⌜ outcome a (now (table .entry)) ≡ check (now (words .entry)) (now (table .entry)) ⌝ }
 {
-    match opening::admit(words, table) {
+    match admitting::admit(words, table, Asked::Sets) {
         HeaderFound::Good(h) => checking::check_table(h, words, table),
         HeaderFound::Refused(r) => refuse_at(r),
     }

@@ -7,7 +7,7 @@ use native.Mathlib.Nat.{mul-le-mul-right}
 use native.Mathlib.Omega.{arith}
 use borrow.Author.Count.{below-more}
 use borrow.Author.Tests.{eq-eqb, ne-eqb}
-use lib.Dec.{eqb, ltb, lt→ltb, ltb→lt}
+use lib.Dec.{ltb, lt→ltb, ltb→lt}
 use lib.ListN.{length, getD, take, replicate, length-replicate}
 use lib.Seq.{length-take-le}
 use Rattle.rules.specs.Relations.{eachOf, relations, setLimit}
@@ -16,6 +16,9 @@ use Rattle.rules.specs.Calls.{wellFormed}
 use Rattle.rules.proofs.Tests.{T-true, T-false}
 use Rattle.rules.proofs.Members.{each-of-out, each-of-places, member-at}
 use Rattle.passes.specs.Passes.{Ready}
+use Rattle.tables.specs.declared.Asked.{Asked}
+use Rattle.tables.specs.declared.Asked.the-variants.{Cells, Sets}
+use Rattle.tables.specs.Asks.{asks}
 
 -- a table's number of cells is small
 pub square-small : (v : ℕ) → v ≤ mostBoards → v * v ≤ mostCells
@@ -62,16 +65,21 @@ module _ (t : List ℕ) where
       let m : getD t k 0 < setLimit = ltb→lt (getD t k 0) setLimit (each-of-out (λ x. ltb x setLimit) t a (getD t k 0) (member-at t k (omega (arith, f .1)))) in
       omega (arith, f .2)))
 
-  -- ---- the number of cells
+  -- ---- what is asked for
 
   module _ (v : ℕ) where
     by-cells : Bool → Bool
     by-cells b = b && eachOf (λ x. ltb x setLimit) t
 
-    pub cells-differ : (length t ≡ v * v → ⊥) → false ≡ wellFormed v t
+    pub cells-differ : (length t ≡ v * v → ⊥) → (a : Asked) → false ≡ asks a v t
     unfolding wellFormed by-cells
-    cells-differ f = sym (ap by-cells (ne-eqb (length t) (v * v) f))
+    cells-differ f Cells = sym (ne-eqb (length t) (v * v) f)
+    cells-differ f Sets = sym (ap by-cells (ne-eqb (length t) (v * v) f))
 
-    pub cells-agree : length t ≡ v * v → {b : Bool} → b ≡ eachOf (λ x. ltb x setLimit) t → b ≡ wellFormed v t
-    unfolding wellFormed by-cells
-    cells-agree e f = f ∙ sym (ap by-cells (eq-eqb (length t) (v * v) e))
+    module _ (cells : length t ≡ v * v) where
+      pub cells-enough : true ≡ asks Cells v t
+      cells-enough = sym (eq-eqb (length t) (v * v) cells)
+
+      pub cells-agree : {b : Bool} → b ≡ eachOf (λ x. ltb x setLimit) t → b ≡ asks Sets v t
+      unfolding wellFormed by-cells
+      cells-agree f = f ∙ sym (ap by-cells (eq-eqb (length t) (v * v) cells))

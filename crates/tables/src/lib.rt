@@ -1,12 +1,12 @@
 // Tables of sets, a byte for each pair of boards.
 ghost use mathlib.Core.Path.{_≡_};
 ghost use Prim.Native.Nat.{_≤_, _<_};
-ghost use lib.ListN.{length, getD, replicate};
+ghost use lib.ListN.{length, getD};
 ghost use lib.Dec.{ltb};
 ghost use Rattle.rules.specs.Relations.{eachOf, setLimit};
 ghost use Rattle.rules.specs.Descriptions.{mostBoards};
-ghost use Rattle.rules.specs.Calls.{wellFormed};
 ghost use Rattle.passes.specs.Passes.{Narrowed};
+ghost use Rattle.tables.specs.Asks.{asks};
 
 // Copies the cells of one table to another with as many.
 pub fn copy(from: &[u8], to: &mut [u8])
@@ -15,17 +15,6 @@ pub fn copy(from: &[u8], to: &mut [u8])
 {
     for i in 0..from.len() {
         to[i] = from[i];
-    }
-}
-
-// Sets every cell to one set.
-pub fn fill(table: &mut [u8], set: u8)
-    ensures { λ _. ⌜ now (table .exit) ≡ replicate (length (now (table .entry))) set ⌝ }
-{
-    let mut i = 0;
-    while i < table.len() {
-        table[i] = set;
-        i += 1;
     }
 }
 
@@ -42,15 +31,24 @@ fn sets_only(table: &[u8]) -> bool
     sets
 }
 
-// Tells whether the table has a cell for each two of v boards, and each cell is a set.
-pub fn well_formed(v: usize, table: &[u8]) -> bool
+// What a call asks for in the table that it is lent: a cell for each two boards, or besides that each cell is a set.
+pub enum Asked {
+    Cells,
+    Sets,
+}
+
+// Tells whether the table of v boards has what is asked for.
+pub fn as_asked(v: usize, table: &[u8], asked: Asked) -> bool
     requires { ⌜ v ≤ mostBoards ⌝ }
-    ensures { λ b. ⌜ b ≡ wellFormed v (now (table .entry)) ⌝ }
+    ensures { λ b. ⌜ b ≡ asks asked v (now (table .entry)) ⌝ }
 {
     if table.len() != v * v {
         return false;
     }
-    sets_only(table)
+    match asked {
+        Asked::Cells => true,
+        Asked::Sets => sets_only(table),
+    }
 }
 
 // Narrows one cell to what the bound has too, and says how many relations that struck.

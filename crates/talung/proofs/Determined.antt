@@ -3,8 +3,8 @@ use Rattle.contracts.specs.Contracts.{AsksNothing, OneResult, OneOutcome}
 use Rattle.talung.proofs.Packing.{packed-determined}
 use Rattle.talung.proofs.talung_read.Kinds as talung-read-kinds
 use Rattle.talung.proofs.talung_read.Reads as talung-read
-use Rattle.talung.proofs.talung_fresh.Kinds as talung-fresh-kinds
-use Rattle.talung.proofs.talung_fresh.Reads as talung-fresh
+use Rattle.talung.proofs.talung_open.Kinds as talung-open-kinds
+use Rattle.talung.proofs.talung_open.Reads as talung-open
 use Rattle.talung.proofs.talung_close.Kinds as talung-close-kinds
 use Rattle.talung.proofs.talung_close.Reads as talung-close
 use Rattle.talung.proofs.talung_search.Kinds as talung-search-kinds
@@ -22,11 +22,11 @@ talung-read-asks-nothing κs a = tt
 pub talung-read-determined : OneResult 1 talung-read-kinds.ps talung-read-kinds.r talung-read.Asked talung-read.Learnt
 talung-read-determined κs a asked x y d e p q = packed-determined p q .0
 
-pub talung-fresh-asks-nothing : AsksNothing 1 talung-fresh-kinds.ps talung-fresh.Asked
-talung-fresh-asks-nothing κs a = tt
+pub talung-open-asks-nothing : AsksNothing 2 talung-open-kinds.ps talung-open.Asked
+talung-open-asks-nothing κs a = tt
 
-pub talung-fresh-determined : OneOutcome 1 talung-fresh-kinds.ps talung-fresh-kinds.r talung-fresh.Asked talung-fresh.Learnt (λ κs e. e .1 .0 .now)
-talung-fresh-determined κs a asked x y d e p q = packed-determined p q
+pub talung-open-determined : OneOutcome 2 talung-open-kinds.ps talung-open-kinds.r talung-open.Asked talung-open.Learnt (λ κs e. e .1 .0 .now)
+talung-open-determined κs a asked x y d e p q = packed-determined p q
 
 pub talung-close-asks-nothing : AsksNothing 2 talung-close-kinds.ps talung-close.Asked
 talung-close-asks-nothing κs a = tt

@@ -1,7 +1,7 @@
 // The calls for C: numbers and lent slices, with the answer packed in one number.
 ghost use mathlib.Core.Path.{_≡_};
 ghost use Rattle.rules.specs.Search.{plainOrder};
-ghost use Rattle.rules.specs.Calls.{reading, fresh, close, searching, check};
+ghost use Rattle.rules.specs.Calls.{reading, opening, close, searching, check};
 ghost use Rattle.typed.specs.Calls.{fromText, toText};
 ghost use Rattle.talung.specs.Packed.{packed, Packed};
 use answers::widths::byte_number;
@@ -29,13 +29,13 @@ pub extern "C" fn talung_read(words: &[u16]) -> u64
     pack(read.number, read.count)
 }
 
-// Makes the lent table one of v boards of which nothing is known yet, as `solver::fresh` does.
+// Opens the lent table, whatever it holds, under the description, as `solver::open` does.
 #[no_mangle]
-pub extern "C" fn talung_fresh(v: u32, table: &mut [u8]) -> u64
-    ensures { λ n. ⌜ Packed n (now (table .exit)) (fresh v (now (table .entry))) ⌝ }
+pub extern "C" fn talung_open(words: &[u16], table: &mut [u8]) -> u64
+    ensures { λ n. ⌜ Packed n (now (table .exit)) (opening (now (words .entry)) (now (table .entry))) ⌝ }
 {
-    let made = solver::fresh(count_number(v), table);
-    pack(made.number, made.count)
+    let opened = solver::open(words, table);
+    pack(opened.number, opened.count)
 }
 
 // Closes the lent table under the description, as `solver::close` does.

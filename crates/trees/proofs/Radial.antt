@@ -8,7 +8,7 @@ use Rattle.rules.specs.Relations.{full}
 use Rattle.rules.specs.Descriptions.{Sheet, WellFormed}
 use Rattle.rules.specs.Arrangements.{Arrangement}
 use Rattle.rules.specs.Search.{Nowhere}
-use Rattle.boards.proofs.Made.{inside-full}
+use Rattle.rules.proofs.Full.{inside-full}
 use Rattle.trees.specs.Trees.{Placement, Draws, unsaid, DrawnFrom, NoTree}
 use Rattle.trees.proofs.Drawn.{draws-some, fits-arrangement, placement-arrangement}
 use Rattle.trees.proofs.Grown.{arrangement-drawn, table-placement}

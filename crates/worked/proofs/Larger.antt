@@ -8,12 +8,12 @@ use Rattle.rules.specs.Descriptions.{relationLine, kindLine, section, boardsBef
 use Rattle.rules.specs.Tables.{emptied, total}
 use Rattle.rules.specs.Closing.{reaches, agree, bound6, bound6′, bound7, bound7′, rules1, rules2, rules3, rules4, rules5, rules6, rules7, rules, strike, sweep, sweeps, closing}
 use Rattle.rules.specs.Search.{attempt, choose, places, search, cap}
-use Rattle.rules.specs.Calls.{wellFormed, admitted, reading, close, searching, arranged, check}
+use Rattle.rules.specs.Calls.{wellFormed, admitted, reading, opening, searching, arranged, check}
 use Rattle.rules.specs.Cases.{AllHold, done, _also_, larger}
 
 pub larger-shown : AllHold larger
 unfolding relations has setTo setOf full meet join complement within size opposite converse singles composed compose codes code
     follow evaluate expression relationLine kindLine section boardsBefore afterNumbers afterOffsets relationLines kindLines meant disagrees firstDisagreeing kindWords agreed read emptied
     total reaches agree bound6 bound6′ bound7 bound7′ rules1 rules2 rules3 rules4 rules5 rules6 rules7 rules strike sweep
-    sweeps closing attempt choose places search cap wellFormed admitted reading close searching arranged check flatMap flatten
+    sweeps closing attempt choose places search cap wellFormed admitted reading opening searching arranged check flatMap flatten
 larger-shown = refl also refl also refl also refl also done

@@ -1,10 +1,12 @@
 -- `put_solved` meets its contract: each of its ends is one of the laws of what is told of a search. Assumes nothing.
-use mathlib.Core.Path.{_≡_, sym, _∙_, subst}
+use mathlib.Core.Path.{_≡_, sym, ap, _∙_, subst}
 use mathlib.Core.List.{List, _++_}
 use Prim.Native.Nat.{ℕ}
+use lib.ListN.{length}
 use Rattle.rules.specs.Search.{plainOrder}
 use Rattle.rules.specs.Calls.{searching}
 use Rattle.rules.specs.Tables.{filled}
+use Rattle.rules.proofs.Full.{filled-cells}
 use Rattle.puts.specs.Texts.{HasRoom, Put}
 use Rattle.puts.proofs.Putting.{put-then, fits-first, fits-rest}
 use Rattle.listing.specs.Listings.{budget, refusalLine, heading, pairs, told}
@@ -13,15 +15,12 @@ use borrow.Author.Needs.{needs}
 use Rattle.listing.proofs.put_solved.Statement.{statement}
 use Rattle.listing.proofs.put_solved.Tie as tie
 
-fresh-requires : tie.Need-fresh-requires
-fresh-requires c κs = search needs
-
 search-requires : tie.Need-search-requires
 search-requires c κs = search needs
 
 -- what the call is given, once the search has answered
 abbrev given : tie.After-struct-known → tie.Start
-given c = c .before .before .before .before .before .before .before .before .before .before .before .before
+given c = c .before .before .before .before .before .before .before .before
 
 abbrev outcomes : tie.After-struct-known → List ℕ
 outcomes c = told (given c .args .v) (searching plainOrder (given c .args .words .now) (filled (given c .args .v)) budget)
@@ -30,8 +29,7 @@ outcomes c = told (given c .args .v) (searching plainOrder (given c .args .words
 refused : (c : tie.Then1) → outcomes (c .before) ≡ refusalLine (c .before .before .before .before .search .result .number)
 refused c =
     let start = given (c .before) in
-    search-told-refused (start .args .words .now) (start .args .table .now) (start .pre .0) (start .pre .1) (start .pre .2)
-    (c .before .before .before .before .before .before .before .before .fresh .ensures) (c .before .before .before .before .search .ensures) (c .if1 .taken)
+    search-told-refused (start .args .v) (start .args .words .now) (start .pre .1) (c .before .before .before .before .search .ensures) (c .if1 .taken)
 
 abbrev first : tie.Else1 → List ℕ
 first c = heading (given (c .before) .args .v) (c .before .before .before .before .search .result .count)
@@ -42,15 +40,14 @@ rest c = pairs (given (c .before) .args .v) (c .before .before .before .before .
 found : (c : tie.Else1) → outcomes (c .before) ≡ first c ++ rest c
 found c =
     let start = given (c .before) in
-    search-told-found (start .args .words .now) (start .args .table .now) (start .pre .0) (start .pre .1) (start .pre .2)
-    (c .before .before .before .before .before .before .before .before .fresh .ensures) (c .before .before .before .before .search .ensures) (c .if1 .left)
+    search-told-found (start .args .v) (start .args .words .now) (start .pre .1) (c .before .before .before .before .search .ensures) (c .if1 .left)
 
 fits : (c : tie.Else1) → HasRoom (given (c .before) .args .text .now) 0 (first c ++ rest c)
-fits c = subst (HasRoom (given (c .before) .args .text .now) 0) (found c) (given (c .before) .pre .3)
+fits c = subst (HasRoom (given (c .before) .args .text .now) 0) (found c) (given (c .before) .pre .2)
 
 put-refusal-requires : tie.Need-put-refusal-requires
 put-refusal-requires c κs =
-    let start = given (c .before .before) in subst (HasRoom (start .args .text .now) 0) (refused (c .before)) (start .pre .3)
+    let start = given (c .before .before) in subst (HasRoom (start .args .text .now) 0) (refused (c .before)) (start .pre .2)
 
 same-length : tie.Need-same-length
 same-length c = search needs
@@ -71,8 +68,8 @@ put-pairs-requires : tie.Need-put-pairs-requires
 put-pairs-requires c κs =
     let else = c .before .before .before .before .before .before in
     let start = given (else .before) in (
-      start .pre .1,
-      else .before .before .before .before .search .kept .1 .0 ∙ else .before .before .before .before .before .before .before .before .fresh .kept .1 .0 ∙ start .pre .2,
+      start .pre .0,
+      else .before .before .before .before .search .kept .1 .0 ∙ ap length (start .pre .1) ∙ filled-cells (start .args .v),
       fits-rest (first else) (rest else) (fits else) (c .before .before .before .before .put-heading .ensures),
     )
 
@@ -93,7 +90,6 @@ pub put-solved-spec : {M : Type 1} → statement M
 put-solved-spec =
     tie.close
     (tie.spec
-    fresh-requires
     search-requires
     put-refusal-requires
     same-length

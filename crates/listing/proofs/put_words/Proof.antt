@@ -5,9 +5,11 @@ use Prim.Native.Nat.{ℕ, _*_, _≤_}
 use native.Mathlib.Nat.{mul-le-mul}
 use native.Mathlib.Omega.{arith}
 use lib.ListN.{length, take, length-replicate}
-use lib.Seq.{length-take-le}
+use Rattle.rules.specs.Relations.{full}
 use Rattle.rules.specs.Descriptions.{mostBoards, mostCells}
+use Rattle.rules.specs.Tables.{filled}
 use Rattle.rules.proofs.Headers.{InRange}
+use Rattle.rules.proofs.Full.{filled-cells, filled-taken}
 use Rattle.puts.specs.Texts.{HasRoom, Put}
 use Rattle.listing.specs.Listings.{refusalLine, solved}
 use Rattle.listing.proofs.Solving.{good-in-range, solved-refused, solved-searched}
@@ -53,9 +55,6 @@ word-number-requires c κs = search needs
 abbrev boards : tie.After-word-number → ℕ
 boards c = c .word-number .result
 
-some : (c : tie.After-word-number) → 1 ≤ boards c
-some c = omega (arith, in-range (c .before .before) .some, c .word-number .ensures)
-
 few : (c : tie.After-word-number) → boards c ≤ mostBoards
 few c = omega (arith, in-range (c .before .before) .boards, c .word-number .ensures)
 
@@ -63,30 +62,31 @@ few c = omega (arith, in-range (c .before .before) .boards, c .word-number .ensu
 cells : (c : tie.After-word-number) → boards c * boards c ≤ mostCells
 cells c = mul-le-mul (few c) (few c)
 
-in-room : (c : tie.After-table-room) → boards (c .before) * boards (c .before) ≤ length (c .table-room .result)
-in-room c = omega (arith, cells (c .before), ap length (c .table-room .ensures) ∙ length-replicate {A = ℕ} mostCells 0)
+in-room : (c : tie.After-full-room) → boards (c .before) * boards (c .before) ≤ length (c .full-room .result)
+in-room c = omega (arith, cells (c .before), ap length (c .full-room .ensures) ∙ length-replicate mostCells full)
 
-taken : (c : tie.After-table-room)
-    → length (take (boards (c .before) * boards (c .before)) (c .table-room .result)) ≡ boards (c .before) * boards (c .before)
-taken c = length-take-le (boards (c .before) * boards (c .before)) (c .table-room .result) (in-room c)
+-- these are a full table
+taken : (c : tie.After-full-room) → take (boards (c .before) * boards (c .before)) (c .full-room .result) ≡ filled (boards (c .before))
+taken c =
+    let n = boards (c .before) * boards (c .before) in
+    ap (take n) (c .full-room .ensures) ∙ filled-taken (boards (c .before)) mostCells (cells (c .before))
 
 mul-n : tie.Need-mul-n
 mul-n c = record { fits = omega (arith, cells c) }
 
-table-room-requires : tie.Need-table-room-requires
-table-room-requires c κs = search needs
+full-room-requires : tie.Need-full-room-requires
+full-room-requires c κs = search needs
 
 array-borrow-prefix-table : tie.Need-array-borrow-prefix-table
 array-borrow-prefix-table c = in-room (c .before)
 
 slice-aggregate-put-solved : tie.Need-slice-aggregate-put-solved
-slice-aggregate-put-solved c = sym (taken (c .before .before))
+slice-aggregate-put-solved c = sym (ap length (taken (c .before .before)) ∙ filled-cells (boards (c .before .before .before)))
 
 put-solved-requires : tie.Need-put-solved-requires
 put-solved-requires c κs =
     let known = c .before .before .before in
     let start = given (known .before .before .before) in (
-      some known,
       few known,
       taken (c .before .before),
       subst (HasRoom (start .args .text .now) 0) (solved-searched (start .args .words .now) (known .word-number .ensures)) (start .pre),
@@ -114,7 +114,7 @@ put-words-spec =
     shared-slice-read-word-number
     word-number-requires
     mul-n
-    table-room-requires
+    full-room-requires
     array-borrow-prefix-table
     slice-aggregate-put-solved
     put-solved-requires

@@ -1,6 +1,7 @@
 -- `check` meets its contract: it is refused at once, or what checking the table comes to. Assumes nothing.
 use mathlib.Core.Path.{sym, _∙_}
-use Rattle.opening.proofs.Admitting.{admit-admitted, admit-place, check-told}
+use Rattle.admitting.proofs.Admitting.{admit-admitted, admit-place, check-told}
+use Rattle.rules.specs.Calls.{wellFormed}
 use native.Mathlib.Omega.{arith}
 use borrow.Author.Needs.{needs}
 use Rattle.solver.proofs.check.Statement.{statement}
@@ -22,14 +23,15 @@ enum-known-r c = search needs
 refuse-at-requires : tie.Need-refuse-at-requires
 refuse-at-requires c κs =
     let start = c .before .before .before .before .before .before in
-    admit-place (start .args .words .now) (start .args .table .now) _ (sym (c .before .r .given .1) ∙ c .before .before .before .admit .ensures) (omega (arith, c .before .before .before .before .before .shared-slice-known .given 5))
+    admit-place wellFormed (start .args .words .now) (start .args .table .now) _ (sym (c .before .r .given .1) ∙ c .before .before .before .admit .ensures) (omega (arith, c .before .before .before .before .before .shared-slice-known .given 5))
 
 returns : tie.Need-returns
 returns c = search needs
 
 returns-2 : tie.Need-returns-2
 returns-2 c =
-    check-told (c .before .before .before .before .before .before .before .args .words .now) (c .before .before .before .before .before .before .before .args .table .now) _ (sym (c .before .before .r .given .1) ∙ c .before .before .before .before .admit .ensures) (c .refuse-at .ensures)
+    check-told (c .before .before .before .before .before .before .before .args .words .now) (c .before .before .before .before .before .before .before .args .table .now) _ (c .refuse-at .ensures)
+    (sym (c .before .before .r .given .1) ∙ c .before .before .before .before .admit .ensures)
 
 pub check-spec : {M : Type 1} → statement M
 check-spec =

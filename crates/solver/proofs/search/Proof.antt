@@ -3,10 +3,10 @@ use mathlib.Core.Path.{_≡_, sym, _∙_, subst}
 use mathlib.Core.List.{List}
 use Prim.Native.Nat.{ℕ}
 use Rattle.rules.specs.Search.{Order}
-use Rattle.rules.specs.Calls.{searching}
+use Rattle.rules.specs.Calls.{wellFormed, searching}
 use Rattle.rules.proofs.Search.{plain-order}
 use Rattle.answers.specs.Answers.{outcome}
-use Rattle.opening.proofs.Admitting.{admit-admitted, admit-place, search-told}
+use Rattle.admitting.proofs.Admitting.{admit-admitted, admit-place, search-told}
 use native.Mathlib.Omega.{arith}
 use borrow.Author.Needs.{needs}
 use Rattle.solver.proofs.search.Statement.{statement}
@@ -34,7 +34,7 @@ enum-known-r c = search needs
 refuse-at-requires : tie.Need-refuse-at-requires
 refuse-at-requires c κs =
     let start = c .before .before .before .before .before .before .before in
-    admit-place (start .args .words .now) (start .args .table .now) _ (sym (c .before .r .given .1) ∙ c .before .before .before .admit .ensures) (omega (arith, c .before .before .before .before .before .before .shared-slice-known .given 5))
+    admit-place wellFormed (start .args .words .now) (start .args .table .now) _ (sym (c .before .r .given .1) ∙ c .before .before .before .admit .ensures) (omega (arith, c .before .before .before .before .before .before .shared-slice-known .given 5))
 
 same-length : tie.Need-same-length
 same-length c = search needs
@@ -50,7 +50,8 @@ same-length-2 c = search needs
 
 returns-2 : tie.Need-returns-2
 returns-2 c =
-    search-told (c .before .before .before .before .before .before .before .before .args .words .now) (c .before .before .before .before .before .before .before .before .args .table .now) _ (sym (c .before .before .r .given .1) ∙ c .before .before .before .before .admit .ensures) (c .refuse-at .ensures) _ (c .before .before .before .before .before .before .before .before .args .budget)
+    search-told (c .before .before .before .before .before .before .before .before .args .words .now) (c .before .before .before .before .before .before .before .before .args .table .now) _ (c .refuse-at .ensures)
+    (sym (c .before .before .r .given .1) ∙ c .before .before .before .before .admit .ensures) _ (c .before .before .before .before .before .before .before .before .args .budget)
 
 pub search-spec : {M : Type 1} → statement M
 search-spec =

@@ -1,0 +1,3 @@
+-- The laws behind admitting a call.
+pub mod Admitting
+pub mod Determined

@@ -1,0 +1,2 @@
+-- What is found when a call is admitted.
+pub mod Found

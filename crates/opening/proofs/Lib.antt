@@ -1,3 +1,0 @@
--- The laws behind the opening of a call.
-pub mod Admitting
-pub mod Determined

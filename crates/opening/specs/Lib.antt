@@ -1,2 +1,0 @@
--- What the opening of a call finds.
-pub mod Found

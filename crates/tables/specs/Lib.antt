@@ -1,0 +1,2 @@
+-- What is asked for in a lent table.
+pub mod Asks

@@ -1,0 +1,76 @@
+//! What opening answers and leaves of descriptions with names, worked out by hand.
+
+/// The relations struck and the table left of sites that the rules name.
+pub const OPENED: [(&str, u32, &[u8]); 9] = [
+    ("one-board", 3, &[1]),
+    ("two-boards", 6, &[1, 15, 15, 1]),
+    ("three-boards", 9, &[1, 15, 15, 15, 1, 15, 15, 15, 1]),
+    ("at-or-above", 10, &[1, 3, 5, 1]),
+    ("at-or-above-both-ways", 12, &[1, 1, 1, 1]),
+    ("two-above-one", 23, &[1, 7, 2, 7, 1, 2, 4, 4, 1]),
+    ("example", 27, &[1, 2, 2, 4, 1, 8, 4, 8, 1]),
+    ("second-way-feeds", 46, &[1, 2, 2, 2, 4, 1, 8, 8, 4, 8, 1, 3, 4, 8, 5, 1]),
+    ("same-way-same-panel", 48, &[1, 2, 1, 2, 4, 1, 4, 1, 1, 2, 1, 2, 4, 1, 4, 1]),
+];
+
+/// The relations struck of other descriptions: 3 for each board, 3 for each further cell that comes to a single
+/// relation, and fewer for the rest.
+pub const STRUCK: [(&str, u32); 32] = [
+    ("no-ways", 13),
+    ("same-panel-same-ways", 48),
+    ("other-kind-without-ways", 12),
+    ("kind-zero-and-65535", 12),
+    ("one-board-same-line-twice", 27),
+    ("one-board-two-names-of-a-way", 27),
+    ("twins-same-panel", 108),
+    ("twins-first-way-same", 108),
+    ("ways-in-a-chain", 75),
+    ("one-way-of-two-panels", 27),
+    ("board-above-a-way", 46),
+    ("one-kind-same-or-side", 36),
+    ("two-kinds-in-turn", 41),
+    ("one-kind-of-eight-ways-16-times", 243),
+    ("board-same-as-itself", 6),
+    ("all-relations", 6),
+    ("line-on-later-board-first", 15),
+    ("inverse-of-above", 15),
+    ("side-of-side", 21),
+    ("chain-of-six", 108),
+    ("chain-by-closing-many-times", 243),
+    ("all-side", 48),
+    ("none-same", 35),
+    ("same-pair-many-lines", 10),
+    ("sixteen-boards", 48),
+    ("fifteen-expression-words", 12),
+    ("fifteen-words-of-unions", 6),
+    ("eight-ways", 243),
+    ("eight-ways-of-sixteen-boards", 264),
+    ("relation-lines-128", 232),
+    ("kind-lines-16", 528),
+    ("longest", 264),
+];
+
+/// The descriptions that opening refuses with 7; the others are taken.
+pub const CONTRADICTORY: [&str; 21] = [
+    "two-above-one-and-side",
+    "one-way-listed-twice",
+    "no-ways-but-above",
+    "panel-among-its-ways",
+    "way-at-one-board",
+    "same-panel-other-kind",
+    "kind-differs-in-high-byte",
+    "one-board-two-kinds",
+    "one-board-ways-exchanged",
+    "twins-same-panel-ways-crossed",
+    "two-panels-feed-each-other",
+    "one-way-of-two-kinds",
+    "board-beside-all-ways",
+    "board-between-panel-and-way",
+    "two-kinds-one-and-two-ways-same-panel",
+    "one-board-two-kinds-one-and-two-ways",
+    "nine-kinds-of-all-numbers-of-ways",
+    "empty-set",
+    "board-above-itself",
+    "above-in-a-ring",
+    "above-or-below-and-not",
+];

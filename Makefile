@@ -15,7 +15,7 @@ lib:
 c_example: lib
 	@sh tests/c_example.sh
 
-# make fuzz N=100000 SEED=1: the product and the second program on fresh cases, up to the first difference.
+# make fuzz N=100000 SEED=1: the product and the second program on new cases, up to the first difference.
 N = 100000
 SEED = 1
 fuzz:

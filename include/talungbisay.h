@@ -113,9 +113,9 @@ static inline uint32_t talung_count(uint64_t answer)
 uint64_t talung_read(const uint16_t *words, size_t n);
 
 /* Opens a table: whatever the cells hold, all is taken as possible, as if each were TALUNG_ANY, and then what the rules exclude under the description is struck.
- * Leaves the largest table in which no rule strikes anything, and loses no tree that fits. Answers TALUNG_OK, and counts the relations struck, from 3 for each
- * board to 768; or a refusal from 1 to 5 or TALUNG_DISAGREES, with its place; or TALUNG_NO_TABLE, where there are not V times V cells, or
- * TALUNG_CONTRADICTORY. A table is opened first. Then it is closed under further lines, or searched. */
+ * Leaves the largest table in which no rule strikes anything, and loses no tree that fits. Answers TALUNG_OK, and counts the relations struck, at most 768; or a
+ * refusal from 1 to 5 or TALUNG_DISAGREES, with its place; or TALUNG_NO_TABLE, where there are not V times V cells, or TALUNG_CONTRADICTORY. A table is opened
+ * first. Then it is closed under further lines, or searched. */
 uint64_t talung_open(const uint16_t *words, size_t n, uint8_t *table, size_t cells);
 
 /* Closes a table: strikes from it what the rules exclude under the description. Leaves the largest table inside it in which no rule strikes anything, and loses

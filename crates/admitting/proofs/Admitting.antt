@@ -7,11 +7,11 @@ use native.Mathlib.Omega.{arith}
 use borrow.Author.Tests.{not-true, not-false}
 use lib.Dec.{T}
 use lib.ListN.{getD}
-use Rattle.rules.specs.Descriptions.{Sheet, Reading, good, refused, need, next, read}
+use Rattle.rules.specs.Descriptions.{Sheet, Reading, good, refused, need, read}
 use Rattle.rules.specs.Calls.{refuse, hasCells, wellFormed, admitted, opening, close, searching, check}
 use Rattle.rules.proofs.Tests.{clash}
 use Rattle.rules.proofs.Places.{place-small}
-use Rattle.rules.proofs.Calls.{wellFormed-table, hasCells-cells, admitted-out}
+use Rattle.rules.proofs.Calls.{wellFormed-table, hasCells-cells, looked, admitted-out}
 use Rattle.rules.proofs.Called.{opening-refused, close-refused, search-refused, check-refused}
 use Rattle.answers.specs.declared.Answer.{Answer}
 use Rattle.answers.specs.declared.refusals.Refusal.{Refusal}
@@ -25,17 +25,13 @@ use Rattle.closing.specs.Closes.{Measured, Admitted}
 use Rattle.admitting.specs.Found.{admittedFound}
 
 module _ (asks : ℕ → List ℕ → Bool) (ws t : List ℕ) where
-  -- what is found, by what is read
-  abbrev looked : Reading Sheet → Reading Sheet
-  looked r = next r (λ s. need 6 0 (asks (s .boards) t) (good s))
-
   -- ---- what `admit` finds
 
   pub admit-undescribed : (q : Refusal) → Refused q ≡ descriptionFound ws → Refused q ≡ admittedFound asks ws t
   unfolding admitted
   admit-undescribed q p = go (read ws) p
     where
-      go : (r : Reading Sheet) → Refused q ≡ numbersFound ws r → Refused q ≡ numbersFound ws (looked r)
+      go : (r : Reading Sheet) → Refused q ≡ numbersFound ws r → Refused q ≡ numbersFound ws (looked asks t r)
       go (good s) e = clash (cc)
       go (refused n k) e = e
 
@@ -45,7 +41,7 @@ module _ (asks : ℕ → List ℕ → Bool) (ws t : List ℕ) where
     tested c e =
         let d = described ws h header in
         ap (λ (x : Bool). numbersFound ws (need 6 0 x (good (d .0)))) (sym e ∙ said ∙ ap (λ (v : ℕ). asks v t) (d .1 .boards))
-        ∙ ap (λ (r : Reading Sheet). numbersFound ws (looked r)) (sym (d .1 .means))
+        ∙ ap (λ (r : Reading Sheet). numbersFound ws (looked asks t r)) (sym (d .1 .means))
 
     pub admit-no-table : not b ≡ true → Refused (refusal 6 0) ≡ admittedFound asks ws t
     admit-no-table e = tested false (not-true b e)
@@ -86,7 +82,7 @@ module _ (asks : ℕ → List ℕ → Bool) (ws t : List ℕ) where
         formless true s e = clash (cc)
         formless false s e = let d : 0 ≡ q .place = cc in omega (arith, d)
 
-        go : (r : Reading Sheet) → read ws ≡ r → looked r ≡ refused (q .number) (q .place) → q .place < 2 ^ 32
+        go : (r : Reading Sheet) → read ws ≡ r → looked asks t r ≡ refused (q .number) (q .place) → q .place < 2 ^ 32
         go (good s) e d = formless (asks (s .boards) t) s d
         go (refused n k) e d = let f : k ≡ q .place = cc in omega (arith, place-small ws n k e, small, f)
 

@@ -27,7 +27,7 @@ use Rattle.meanings.proofs.Sheets.{typed-made}
 use Rattle.answers.specs.declared.Answer.{Answer}
 use Rattle.answers.proofs.Outcomes.{says}
 use Rattle.demands.specs.Entries.{Reads, AnyCall, ReadingText, WritingText}
-use Rattle.demands.specs.Sentences.{TableCall}
+use Rattle.demands.specs.Runs.{TableCall}
 use Rattle.demands.specs.Texts.{RoomCall}
 use Rattle.demands.specs.Arities.{Disagreeing, Disagree, OneNumberOfWays}
 use Rattle.demands.proofs.Refusing.{reading-refused, any-gives, gives-description, gives-eleven}

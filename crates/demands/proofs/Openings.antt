@@ -25,7 +25,7 @@ use Rattle.answers.specs.Answers.{answered, outcome}
 use Rattle.answers.proofs.Outcomes.{says, outcome-determined}
 use Rattle.demands.specs.Entries.{Opening, Closing, Searching}
 use Rattle.demands.specs.Sentences.{Cells}
-use Rattle.demands.specs.Openings.{SameOutcome, OpensFull, making, lentFirst, makingThenClosing, OpeningAsBefore}
+use Rattle.demands.specs.Openings.{SameOutcome, OpensFull, making, keeping, makingThenClosing, OpeningAsBefore}
 use Rattle.demands.proofs.Refusing.{opening-gives, gives-table}
 use Rattle.demands.proofs.Ending.{closing-ends, opening-ends, ends-done, ends-answers, ends-contradictory}
 
@@ -169,7 +169,7 @@ module _ (ws : List ℕ) (s : Sheet) (means : read ws ≡ good s) (t : List ℕ)
       elim a [ true ↦ elim b [ true ↦ succeed 0 (filled (s .boards)) | false ↦ refuse 6 0 t ] | false ↦ refuse 1 0 t ]
 
   then-closing : Outcome (List ℕ) → Outcome (List ℕ)
-  then-closing made = elim (eqb (made .number) 0) [ true ↦ lentFirst t (close ws (made .lent)) | false ↦ made ]
+  then-closing made = elim (eqb (made .number) 0) [ true ↦ keeping t (close ws (made .lent)) | false ↦ made ]
 
   tested : (b : Bool) → hasCells (s .boards) t ≡ b → makingThenClosing ws (s .boards) t ≡ then-closing (by-tests true b)
   unfolding making makingThenClosing by-tests then-closing
@@ -180,17 +180,17 @@ module _ (ws : List ℕ) (s : Sheet) (means : read ws ≡ good s) (t : List ℕ)
       T-true (and-T (leb 1 v) (leb v mostBoards) (le→leb 1 v (boards .0)) (le→leb v mostBoards (boards .1))) in
       ap (λ (a : Bool). then-closing (by-tests a (hasCells v t))) in-range ∙ ap (λ (b : Bool). then-closing (by-tests true b)) e
 
-  -- closing the full table, the lent one as it came on a refusal
-  lent-first : (b : Bool) → lentFirst t (by-cells (filled (s .boards)) s (filled (s .boards)) b) ≡ by-cells t s (filled (s .boards)) b
-  lent-first true = refl
-  lent-first false = refl
+  -- closing the full table, where a refusal leaves the lent one
+  kept-lent : (b : Bool) → keeping t (by-cells (filled (s .boards)) s (filled (s .boards)) b) ≡ by-cells t s (filled (s .boards)) b
+  kept-lent true = refl
+  kept-lent false = refl
 
   as-before : (b : Bool) → hasCells (s .boards) t ≡ b → opening ws t ≡ makingThenClosing ws (s .boards) t
   unfolding by-tests then-closing
   as-before true e =
       let full = filled (s .boards) in
-      opening-good t ws s means (hasCells-cells (s .boards) t (true-T e)) ∙ sym (lent-first (emptied (closing s full)))
-      ∙ ap (lentFirst t) (sym (close-good full ws s means (full-table (s .boards)))) ∙ sym (tested true e)
+      opening-good t ws s means (hasCells-cells (s .boards) t (true-T e)) ∙ sym (kept-lent (emptied (closing s full)))
+      ∙ ap (keeping t) (sym (close-good full ws s means (full-table (s .boards)))) ∙ sym (tested true e)
   as-before false e =
       opening-refused t ws (admitted-no-table hasCells ws t s means (λ h. subst T e h)) ∙ sym (tested false e)
 

@@ -20,7 +20,8 @@ use Rattle.answers.specs.declared.Answer.{Answer}
 use Rattle.answers.specs.Answers.{outcome}
 use Rattle.answers.proofs.Outcomes.{says, counts, leaves}
 use Rattle.demands.specs.Entries.{Opening, Call, closes, searches, checks, AnyCall, opens, calls, Refuses}
-use Rattle.demands.specs.Sentences.{TableCall, RefusesMalformed}
+use Rattle.demands.specs.Runs.{TableCall}
+use Rattle.demands.specs.Sentences.{RefusesMalformed}
 
 -- reading, by what the words mean
 abbrev told : Reading Sheet → Outcome (Unit {0})

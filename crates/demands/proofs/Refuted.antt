@@ -24,8 +24,8 @@ use Rattle.rules.proofs.Search.{plain-order, least-unique, search-found}
 use Rattle.rules.proofs.Calls.{wellFormed-table, arrangement-arranged, arranged-arrangement}
 use Rattle.rules.proofs.Full.{full-table}
 use Rattle.answers.specs.declared.Answer.{Answer}
-use Rattle.demands.specs.Runs.{Stage, Called}
-use Rattle.demands.specs.Sentences.{TableCall, SearchCall, CheckCall, Cells, Demand1, stated, Demand2, ClosingSentence, ClosesEach, Demand3}
+use Rattle.demands.specs.Runs.{TableCall, Stage, Called}
+use Rattle.demands.specs.Sentences.{SearchCall, CheckCall, Cells, Demand1, stated, Demand2, ClosingSentence, ClosesEach, Demand3}
 
 -- ---- what the sentences say where a search or a closing succeeds
 

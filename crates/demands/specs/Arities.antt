@@ -10,7 +10,8 @@ use Rattle.rules.specs.Descriptions.{KindLine, Sheet, good, meant, read, OneAri
 use Rattle.rules.specs.Arrangements.{Alike}
 use Rattle.rules.specs.Closing.{agree}
 use Rattle.answers.specs.declared.Answer.{Answer}
-use Rattle.demands.specs.Sentences.{TableCall, EachCall}
+use Rattle.demands.specs.Runs.{TableCall}
+use Rattle.demands.specs.Sentences.{EachCall}
 use Rattle.demands.specs.Texts.{RoomCall, EachRoom, EachSheet}
 
 -- the first kind line that disagrees with an earlier one: it has its code and another number of ways, and the lines before it are of one arity

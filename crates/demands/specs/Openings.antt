@@ -12,17 +12,13 @@ use Rattle.rules.specs.Tables.{filled}
 use Rattle.rules.specs.Calls.{Outcome, refuse, succeed, opening, close}
 use Rattle.answers.specs.declared.Answer.{Answer}
 use Rattle.answers.specs.Answers.{answered}
-use Rattle.demands.specs.Sentences.{TableCall, SearchCall, Cells}
+use Rattle.demands.specs.Runs.{TableCall}
+use Rattle.demands.specs.Sentences.{SearchCall, Cells, EachOpened}
 
 -- the same answers, and on success the same tables
 pub record SameOutcome (a : Answer) (w : List ℕ) (d : Answer) (x : List ℕ) : Type 0 where
   pub answer : a ≡ d
   pub table : a .number ≡ 0 → w ≡ x
-
--- P holds of whatever an opening answers and leaves, for a good description and as many cells as its boards need.
-abbrev pub EachOpened : TableCall → ((ws : List ℕ) (s : Sheet) (t : List ℕ) (a : Answer) (w : List ℕ) → Type 0) → Type 0
-EachOpened Opens P =
-    (ws : List ℕ) (s : Sheet) → read ws ≡ good s → (t : List ℕ) → Cells (s .boards) t → (a : Answer) (w : List ℕ) → Opens ws t a w → P ws s t a w
 
 -- Of calls that open, close and search:
 pub record OpensFull (Opens Closes : TableCall) (Searches : SearchCall) : Type 0 where
@@ -52,15 +48,15 @@ making v t =
       | false ↦ refuse 1 0 t
     ]
 
--- an outcome of a call that is lent t first: a refusal leaves it as it came
-abbrev pub lentFirst : List ℕ → Outcome (List ℕ) → Outcome (List ℕ)
-lentFirst t o = elim (eqb (o .number) 0) [ true ↦ o | false ↦ refuse (o .number) (o .count) t ]
+-- the outcome o, but that a refusal leaves t
+abbrev pub keeping : List ℕ → Outcome (List ℕ) → Outcome (List ℕ)
+keeping t o = elim (eqb (o .number) 0) [ true ↦ o | false ↦ refuse (o .number) (o .count) t ]
 
--- making the full table and closing what that left, unless it was refused
+-- making the full table in t, and then closing what that left unless it was refused; a refusal leaves t as it came
 unfoldable pub makingThenClosing : List ℕ → ℕ → List ℕ → Outcome (List ℕ)
 makingThenClosing ws v t =
-    let made = making v t in elim (eqb (made .number) 0) [ true ↦ lentFirst t (close ws (made .lent)) | false ↦ made ]
+    let made = making v t in elim (eqb (made .number) 0) [ true ↦ keeping t (close ws (made .lent)) | false ↦ made ]
 
--- Of a good description, opening is making the full table and then closing it, as the definitions had these; but that a refusal leaves the table as it came.
+-- Under a good description, opening is making the full table and then closing it.
 abbrev pub OpeningAsBefore : Type 0
 OpeningAsBefore = (ws : List ℕ) (s : Sheet) → read ws ≡ good s → (t : List ℕ) → opening ws t ≡ makingThenClosing ws (s .boards) t

@@ -8,7 +8,8 @@ use Rattle.rules.specs.Expressions.{expression, Longest}
 use Rattle.rules.specs.Descriptions.{mostBoards, mostLines, mostKinds, mostExpressionWords, mostWays, Reading, good, refused, Front, next, meaning, relationLine, kindLine, section, afterHeader, kindWords, agreed, read}
 use Rattle.rules.specs.Places.{Placing}
 use Rattle.answers.specs.declared.Answer.{Answer}
-use Rattle.demands.specs.Sentences.{TableCall, EachCall}
+use Rattle.demands.specs.Runs.{TableCall}
+use Rattle.demands.specs.Sentences.{EachCall}
 use Rattle.demands.specs.Texts.{RoomCall, EachRoom, EachSheet}
 use Rattle.demands.specs.Arities.{Disagree}
 

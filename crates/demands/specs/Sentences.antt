@@ -19,12 +19,9 @@ use Rattle.answers.specs.declared.Answer.{Answer}
 use Rattle.answers.specs.Answers.{answered}
 use Rattle.demands.specs.Entries.{Refuses}
 use Rattle.demands.specs.Published.{OfPublished}
-use Rattle.demands.specs.Runs.{Stage, sheets, contradictory, Called, Opened}
+use Rattle.demands.specs.Runs.{TableCall, Stage, sheets, contradictory, Called, Opened}
 
--- What a call that is lent the description ws and the table t may answer, a, and leave of the table, w; a search, within a budget b; a check, which only reads.
-abbrev pub TableCall : Type 1
-TableCall = (ws t : List ℕ) (a : Answer) (w : List ℕ) → Type 0
-
+-- What a search that is lent the description ws and the table t may answer, a, and leave of the table, w, within a budget b; and a check, which only reads.
 abbrev pub SearchCall : Type 1
 SearchCall = (ws t : List ℕ) (b : ℕ) (a : Answer) (w : List ℕ) → Type 0
 
@@ -126,12 +123,14 @@ abbrev pub EachClosing : TableCall → ClosingSentence → Type 0
 EachClosing Closes P =
     (ws : List ℕ) (s : Sheet) → read ws ≡ good s → (t : List ℕ) → Table (s .boards) t → (a : Answer) (w : List ℕ) → Closes ws t a w → P s t a w
 
--- P holds of whatever an opening answers and leaves, for a good description and as many cells as its boards need: of the full table, whatever the lent one
--- holds.
+-- P holds of whatever an opening answers and leaves, for a good description and as many cells as its boards need, whatever they hold.
+abbrev pub EachOpened : TableCall → ((ws : List ℕ) (s : Sheet) (t : List ℕ) (a : Answer) (w : List ℕ) → Type 0) → Type 0
+EachOpened Opens P =
+    (ws : List ℕ) (s : Sheet) → read ws ≡ good s → (t : List ℕ) → Cells (s .boards) t → (a : Answer) (w : List ℕ) → Opens ws t a w → P ws s t a w
+
+-- P holds so of the full table: it is the one that is closed.
 abbrev pub EachOpening : TableCall → ClosingSentence → Type 0
-EachOpening Opens P =
-    (ws : List ℕ) (s : Sheet) → read ws ≡ good s → (t : List ℕ) → Cells (s .boards) t → (a : Answer) (w : List ℕ) → Opens ws t a w
-    → P s (filled (s .boards)) a w
+EachOpening Opens P = EachOpened Opens (λ ws s t a w. P s (filled (s .boards)) a w)
 
 -- Of each closing of a table t under a description s:
 pub record ClosesEach (Each : ClosingSentence → Type 0) : Type 0 where

@@ -54,30 +54,30 @@ hasCells-cells v t h = eqb→eq (length t) (v * v) h
 
 -- ---- what comes before the rest of a call, whatever 6 asks for
 
-module _ (asks : ℕ → List ℕ → Bool) (ws t : List ℕ) where
-  -- the table is looked at once the description has been read
-  abbrev looked : Reading Sheet → Reading Sheet
-  looked r = next r (λ s. need 6 0 (asks (s .boards) t) (good s))
+-- the table is looked at once the description has been read
+abbrev pub looked : (ℕ → List ℕ → Bool) → List ℕ → Reading Sheet → Reading Sheet
+looked asks t r = next r (λ s. need 6 0 (asks (s .boards) t) (good s))
 
+module _ (asks : ℕ → List ℕ → Bool) (ws t : List ℕ) where
   pub admitted-refused : (n k : ℕ) → read ws ≡ refused n k → admitted asks ws t ≡ refused n k
   unfolding admitted
-  admitted-refused n k e = ap looked e
+  admitted-refused n k e = ap (looked asks t) e
 
   module _ (s : Sheet) (means : read ws ≡ good s) where
     pub admitted-no-table : (T (asks (s .boards) t) → ⊥) → admitted asks ws t ≡ refused 6 0
     unfolding admitted
-    admitted-no-table g = ap looked means ∙ ap (λ (b : Bool). need 6 0 b (good s)) (T-false {b = asks (s .boards) t} g)
+    admitted-no-table g = ap (looked asks t) means ∙ ap (λ (b : Bool). need 6 0 b (good s)) (T-false {b = asks (s .boards) t} g)
 
     pub admitted-good : T (asks (s .boards) t) → admitted asks ws t ≡ good s
     unfolding admitted
-    admitted-good h = ap looked means ∙ ap (λ (b : Bool). need 6 0 b (good s)) (T-true {b = asks (s .boards) t} h)
+    admitted-good h = ap (looked asks t) means ∙ ap (λ (b : Bool). need 6 0 b (good s)) (T-true {b = asks (s .boards) t} h)
 
   -- what is known of what was admitted
   pub admitted-out : (s : Sheet) → admitted asks ws t ≡ good s → (read ws ≡ good s) × T (asks (s .boards) t)
   unfolding admitted
   admitted-out s p = by (read ws) refl p
     where
-      by : (r : Reading Sheet) → read ws ≡ r → looked r ≡ good s → (r ≡ good s) × T (asks (s .boards) t)
+      by : (r : Reading Sheet) → read ws ≡ r → looked asks t r ≡ good s → (r ≡ good s) × T (asks (s .boards) t)
       by (good u) e q = formed (asks (u .boards) t) refl q
         where
           formed : (b : Bool) → asks (u .boards) t ≡ b → need 6 0 b (good u) ≡ good s → (good u ≡ good s) × T (asks (s .boards) t)

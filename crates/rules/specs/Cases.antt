@@ -246,17 +246,17 @@ cases =
     -- every call says where, also if its table is no table
     ∷ refuses (describe 2 (is 0 same 2 ∷ []) []) (16 ∷ []) 0 4 7
     ∷ refuses (describe 2 ((0 ∷ 1 ∷ 2 ∷ 4 ∷ 0 ∷ []) ∷ is 0 same 1 ∷ []) []) (filled 2) 0 5 11
-    -- Make a table and close it in a single call (02, request 4). Old contents of any sort, empty cells, no sets and a tree among them, give the same table
+    -- Make a table and close it in a single call (02, request 4). Opening gives one table over any old contents: empty cells, cells that are no sets, a tree
     ∷ opens 2 [] [] (0 ∷ 0 ∷ 0 ∷ 0 ∷ []) 6 (1 ∷ 15 ∷ 15 ∷ 1 ∷ [])
     ∷ opens 2 [] [] (0 ∷ 255 ∷ 15 ∷ 16 ∷ []) 6 (1 ∷ 15 ∷ 15 ∷ 1 ∷ [])
     ∷ opens 2 (atOrAbove 0 1 ∷ []) [] (1 ∷ 2 ∷ 4 ∷ 1 ∷ []) 10 (1 ∷ 3 ∷ 5 ∷ 1 ∷ [])
     ∷ opens 2 (atOrAbove 0 1 ∷ []) [] (filled 2) 10 (1 ∷ 3 ∷ 5 ∷ 1 ∷ [])
-    -- closing looks at them: it strikes from what the cells hold, is contradictory for an empty one, and refuses what is no set with 6, as search and check do
+    -- closing strikes from what the cells hold, is contradictory for an empty one, and refuses with 6 what is no set, as search and check do
     ∷ closes 2 (atOrAbove 0 1 ∷ []) [] (filled 2) 10 (1 ∷ 3 ∷ 5 ∷ 1 ∷ [])
     ∷ closes 2 (atOrAbove 0 1 ∷ []) [] (1 ∷ 2 ∷ 4 ∷ 1 ∷ []) 0 (1 ∷ 2 ∷ 4 ∷ 1 ∷ [])
     ∷ clashesIn 2 [] [] (1 ∷ 0 ∷ 15 ∷ 1 ∷ [])
     ∷ refusesContents 2 [] [] (0 ∷ 255 ∷ 15 ∷ 16 ∷ []) 0
-    -- in stages: what was opened with one line has 2 relations more than with both, and closing it again strikes nothing
+    -- in stages: closing again what was opened with one line strikes nothing, and closing it with the other line too strikes 2
     ∷ closes 2 (atOrAbove 0 1 ∷ []) [] (1 ∷ 3 ∷ 5 ∷ 1 ∷ []) 0 (1 ∷ 3 ∷ 5 ∷ 1 ∷ [])
     ∷ closes 2 (atOrAbove 0 1 ∷ atOrAbove 1 0 ∷ []) [] (1 ∷ 3 ∷ 5 ∷ 1 ∷ []) 2 (1 ∷ 1 ∷ 1 ∷ 1 ∷ [])
     -- a contradiction leaves old contents, whatever they are

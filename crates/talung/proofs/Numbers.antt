@@ -4,7 +4,7 @@ use mathlib.Core.Bool.{Bool, true, false}
 use mathlib.Core.List.{List}
 use Prim.Native.Nat.{ℕ, _≤_}
 use native.Mathlib.Omega.{arith}
-use Rattle.rules.specs.Descriptions.{Sheet, Reading, good, refused, need, next, read}
+use Rattle.rules.specs.Descriptions.{Sheet, Reading, good, refused, need, read}
 use Rattle.rules.specs.Tables.{filled, emptied}
 use Rattle.rules.specs.Closed.{strikes}
 use Rattle.rules.specs.Closing.{closing}
@@ -12,6 +12,7 @@ use Rattle.rules.specs.Search.{found, none, Capped, ended, ranOut, search, cap}
 use Rattle.rules.specs.Calls.{Outcome, refuse, succeed, hasCells, wellFormed, admitted, given, reading, closeInto, opening, close, answer, searching, arranged, check}
 use Rattle.rules.proofs.Tests.{clash}
 use Rattle.rules.proofs.Descriptions.{read-bounded}
+use Rattle.rules.proofs.Calls.{looked}
 use Rattle.talung.proofs.Packing.{mostNumber}
 
 abbrev Numbered : {L : Type 0} → Outcome L → Type 0
@@ -25,7 +26,7 @@ admitted-numbered : (asks : ℕ → List ℕ → Bool) (ws t : List ℕ) (n k : 
 unfolding admitted
 admitted-numbered asks ws t n k p = by (read ws) refl p
   where
-    by : (r : Reading Sheet) → read ws ≡ r → next r (λ s. need 6 0 (asks (s .boards) t) (good s)) ≡ refused n k → n ≤ mostNumber
+    by : (r : Reading Sheet) → read ws ≡ r → looked asks t r ≡ refused n k → n ≤ mostNumber
     by (good s) e p = formed (asks (s .boards) t) p
       where
         formed : (b : Bool) → need 6 0 b (good s) ≡ refused n k → n ≤ mostNumber

@@ -21,7 +21,7 @@ SEED = 1
 fuzz:
 	@sh tools/fuzz.sh $(N) $(SEED)
 
-# make bench: how long closings, searches and the text calls take beside plain C versions of the same methods, and that both answer the same.
+# make bench: how long openings, closings, searches and the text calls take beside plain C versions of the same methods, and that both answer the same.
 bench: lib
 	@sh bench/run.sh
 

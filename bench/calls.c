@@ -6,6 +6,16 @@
 /* What stands in each byte of a room before the call. */
 enum { MARK = 165 };
 
+static uint64_t product_opens(const struct sheet *s, void *table)
+{
+    return talung_open(s->words, s->n, table, s->m);
+}
+
+static uint64_t plain_opens(const struct sheet *s, void *table)
+{
+    return plain_open(s->words, s->n, table, s->m);
+}
+
 static uint64_t product_closes(const struct sheet *s, void *table)
 {
     return talung_close(s->words, s->n, table, s->m);
@@ -46,12 +56,24 @@ static uint64_t plain_writes(const struct sheet *s, void *text)
     return plain_to_text(s->words, s->n, text, s->m);
 }
 
-work *const by_product[] = {[CLOSE] = product_closes, [SEARCH] = product_searches, [READ] = product_reads, [WRITE] = product_writes};
-work *const by_plain[] = {[CLOSE] = plain_closes, [SEARCH] = plain_searches, [READ] = plain_reads, [WRITE] = plain_writes};
+work *const by_product[] = {
+    [OPEN] = product_opens,
+    [CLOSE] = product_closes,
+    [SEARCH] = product_searches,
+    [READ] = product_reads,
+    [WRITE] = product_writes,
+};
+work *const by_plain[] = {
+    [OPEN] = plain_opens,
+    [CLOSE] = plain_closes,
+    [SEARCH] = plain_searches,
+    [READ] = plain_reads,
+    [WRITE] = plain_writes,
+};
 
 void lend(const struct group *g, const struct sheet *s, void *lent)
 {
-    if (g->task == CLOSE || g->task == SEARCH) {
+    if (g->task != READ && g->task != WRITE) {
         memcpy(lent, s->table, MOST_TABLE);
         return;
     }

@@ -85,6 +85,34 @@ static void expect(const struct group *g, size_t i, uint64_t answer, unsigned nu
         fail(g, i, "refused, but what was lent is not as it came");
 }
 
+/* ---- openings */
+
+/* Has both close the full table under the sheet's description. Answers what they do, and leaves their table. */
+static uint64_t close_full(const struct group *g, size_t i, const struct sheet *s, uint8_t *table)
+{
+    uint8_t other[MOST_TABLE];
+    fill_table(table);
+    fill_table(other);
+    uint64_t answer = plain_close(s->words, s->n, table, s->m);
+    compare(g, i, talung_close(s->words, s->n, other, s->m), other, answer, table);
+    return answer;
+}
+
+/* Has both open the sheet's table. Ends the program unless they answer what a closing of the full table does, and leave the same cells; the rest of the table, or
+   all of it where they refuse, must be as it came. */
+static void check_opening(const struct group *g, size_t i, const struct sheet *s)
+{
+    uint8_t table[MOST_TABLE];
+    uint8_t closed[MOST_TABLE];
+    uint8_t expected[MOST_TABLE];
+    uint64_t answer = close_full(g, i, s, closed);
+    memcpy(expected, s->table, MOST_TABLE);
+    if (talung_number(answer) == TALUNG_OK)
+        memcpy(expected, closed, s->m);
+    if (answer_sheet(g, i, s, table) != answer || memcmp(table, expected, MOST_TABLE))
+        fail(g, i, "not opened as the full table is closed");
+}
+
 /* ---- spoilt descriptions */
 
 /* Has both do the group's task with a description that has another word at this place. */
@@ -93,7 +121,10 @@ static void compare_word(const struct group *g, size_t i, struct sheet *s, size_
     uint16_t lent[MOST_ROOM / 2];
     uint16_t was = s->words[place];
     s->words[place] = word;
-    answer_sheet(g, i, s, lent);
+    if (g->task == OPEN)
+        check_opening(g, i, s);
+    else
+        answer_sheet(g, i, s, lent);
     s->words[place] = was;
 }
 
@@ -187,6 +218,29 @@ static void check_closed(const struct group *g, size_t i)
     if (number == 0)
         expect_arrangement(g, i, table);
     check_written(g, i);
+    compare_spoilt(g, i);
+}
+
+/* Checks a sheet that is opened, with its own old contents of the table and with others: zeros, the largest byte, the full table, and bytes that rise; and with one
+   cell more, and with none. */
+static void check_opened(const struct group *g, size_t i)
+{
+    static const struct {
+        uint8_t first;
+        uint8_t step;
+    } contents[] = {{0, 0}, {255, 0}, {TALUNG_ANY, 0}, {0, 1}};
+    struct sheet s = g->sheets[i];
+    expect_site(g, i, left(g, i));
+    check_opening(g, i, &s);
+    for (size_t c = 0; c < sizeof contents / sizeof contents[0]; c++) {
+        for (size_t k = 0; k < MOST_TABLE; k++)
+            s.table[k] = contents[c].first + k * contents[c].step;
+        check_opening(g, i, &s);
+    }
+    s.m++;
+    check_opening(g, i, &s);
+    s.m = 0;
+    check_opening(g, i, &s);
     compare_spoilt(g, i);
 }
 
@@ -344,6 +398,7 @@ void check_group(const struct group *g)
 {
     static void (*const checks[])(const struct group *, size_t) = {
         [CLOSE] = check_closed,
+        [OPEN] = check_opened,
         [SEARCH] = check_searched,
         [READ] = check_text,
         [WRITE] = check_text,

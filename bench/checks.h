@@ -7,7 +7,8 @@
 /* Has both do the task of a group with each of its sheets, and keeps what they answer and leave. Ends the program if they differ. */
 void answer_group(const struct group *g);
 
-/* Does the same, and ends the program unless each sheet is answered as the group says; tries other budgets, other rooms and spoilt sheets too. */
+/* Does the same, and ends the program unless each sheet is answered as the group says; tries other budgets, other old contents of opened tables,
+   other rooms and spoilt sheets too. */
 void check_group(const struct group *g);
 
 /* Ends the program unless this is what was kept for the sheet. */

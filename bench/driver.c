@@ -5,7 +5,10 @@
 #include "checks.h"
 
 enum {
-    GROUPS = CLOSED_GROUPS + SEARCHED_GROUPS + TEXT_GROUPS,
+    OPENED_AT = CLOSED_GROUPS,
+    SEARCHED_AT = OPENED_AT + OPENED_GROUPS,
+    TEXTS_AT = SEARCHED_AT + SEARCHED_GROUPS,
+    GROUPS = TEXTS_AT + TEXT_GROUPS,
     TURNS = 5,
     LEAST_TURN_NS = 2000000,
     BATCH = 56
@@ -34,10 +37,10 @@ static uint64_t nanoseconds(void)
     return 1000000000u * (uint64_t)now.tv_sec + (uint64_t)now.tv_nsec;
 }
 
-/* How many calls make a batch: one round of a group's sheets; of closings, which take less time than searches, as many rounds as there is room for. */
+/* How many calls make a batch: one round of a group's sheets; of closings and openings, which take less time than searches, as many rounds as there is room for. */
 static size_t batch_of(const struct group *g)
 {
-    return g->task == CLOSE ? BATCH / g->count * g->count : g->count;
+    return g->task == CLOSE || g->task == OPEN ? BATCH / g->count * g->count : g->count;
 }
 
 /* Has a batch done as many times as this, each time with what is lent as it comes, and answers the time of the calls alone. */
@@ -157,8 +160,9 @@ int main(int argc, char **argv)
 {
     (void)argv;
     make_closed_groups(groups);
-    make_searched_groups(groups + CLOSED_GROUPS);
-    make_text_groups(groups + CLOSED_GROUPS + SEARCHED_GROUPS);
+    make_opened_groups(groups + OPENED_AT, groups);
+    make_searched_groups(groups + SEARCHED_AT);
+    make_text_groups(groups + TEXTS_AT);
     if (argc > 1) {
         count_groups();
         return 0;

@@ -17,7 +17,7 @@ compile_parts() {
     compile plain_search.c plain_search.o -O3
     compile plain_text.c plain_text.o -O3
     parts=''
-    for part in driver checks calls sheets searches texts sites; do
+    for part in driver checks calls sheets openings searches texts sites; do
         compile "$part.c" "$part.o" -O2
         parts="$parts $built/$part.o"
     done

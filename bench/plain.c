@@ -1,4 +1,4 @@
-/* Closing a table in plain C, by the product's method: the same passes in the same order. */
+/* Opening and closing a table in plain C, by the product's method: the same passes in the same order. */
 #include "plain_parts.h"
 
 /* Sets of relations: same board, above, below, side, and some of them together. */
@@ -228,7 +228,7 @@ static struct refusal read_agreed_lines(size_t v, size_t count, const uint16_t *
     return at < n ? refuse(TALUNG_DISAGREES, at + 2) : good;
 }
 
-/* Reads a whole description. Answers the first refusal, if there is one. Each of its two callers has it in its own code, so that a closing reads without a call. */
+/* Reads a whole description. Answers the first refusal, if there is one. Each of its callers has it in its own code, so that a closing reads without a call. */
 static inline __attribute__((always_inline)) struct refusal read_whole(const uint16_t *words, size_t n, struct header *h)
 {
     struct refusal found = read_header(words, n, h);
@@ -239,6 +239,15 @@ static inline __attribute__((always_inline)) struct refusal read_whole(const uin
         return later(HEADER_WORDS, found);
     found = read_agreed_lines(h->boards, h->kinds, words + h->kinds_at, n - h->kinds_at);
     return found.number ? later(h->kinds_at, found) : good;
+}
+
+/* Reads a whole description, and then looks whether m cells are one for each two boards. Answers the first refusal, if there is one. */
+static inline __attribute__((always_inline)) struct refusal admit(const uint16_t *words, size_t n, size_t m, struct header *h)
+{
+    struct refusal found = read_whole(words, n, h);
+    if (found.number)
+        return found;
+    return m == h->boards * h->boards ? good : refuse(TALUNG_NO_TABLE, 0);
 }
 
 /* Narrows one cell to what the bound has too. Answers how many relations that struck. */
@@ -454,12 +463,33 @@ static __attribute__((noinline)) int copy_table(const uint8_t *table, size_t m, 
 
 struct refusal take(const uint16_t *words, size_t n, const uint8_t *table, size_t m, struct header *h, uint8_t *cells)
 {
-    struct refusal found = read_whole(words, n, h);
+    struct refusal found = admit(words, n, m, h);
     if (found.number)
         return found;
-    if (m != h->boards * h->boards || !copy_table(table, m, cells))
-        return refuse(TALUNG_NO_TABLE, 0);
-    return good;
+    return copy_table(table, m, cells) ? good : refuse(TALUNG_NO_TABLE, 0);
+}
+
+/* Closes the m working cells, and copies them to the table. Where they are contradictory, refuses and leaves the table as it came. */
+static uint64_t close_into(const struct header *h, const uint16_t *words, uint8_t *cells, uint8_t *table, size_t m)
+{
+    int struck = close_cells(h, words, cells);
+    if (struck < 0)
+        return answer(TALUNG_CONTRADICTORY, 0);
+    for (size_t i = 0; i < m; i++)
+        table[i] = cells[i];
+    return answer(TALUNG_OK, struck);
+}
+
+uint64_t plain_open(const uint16_t *words, size_t n, uint8_t *table, size_t m)
+{
+    struct header h;
+    uint8_t cells[TALUNG_MOST_CELLS];
+    struct refusal found = admit(words, n, m, &h);
+    if (found.number)
+        return refuse_at(found);
+    for (size_t i = 0; i < TALUNG_MOST_CELLS; i++)
+        cells[i] = TALUNG_ANY;
+    return close_into(&h, words, cells, table, m);
 }
 
 uint64_t plain_close(const uint16_t *words, size_t n, uint8_t *table, size_t m)
@@ -469,10 +499,5 @@ uint64_t plain_close(const uint16_t *words, size_t n, uint8_t *table, size_t m)
     struct refusal found = take(words, n, table, m, &h, cells);
     if (found.number)
         return refuse_at(found);
-    int struck = close_cells(&h, words, cells);
-    if (struck < 0)
-        return answer(TALUNG_CONTRADICTORY, 0);
-    for (size_t i = 0; i < m; i++)
-        table[i] = cells[i];
-    return answer(TALUNG_OK, struck);
+    return close_into(&h, words, cells, table, m);
 }

@@ -1,8 +1,11 @@
-/* The calls in plain C that are measured beside the product's own: closing, the search, reading a typed sheet and writing one. */
+/* The calls in plain C that are measured beside the product's own: opening, closing, the search, reading a typed sheet and writing one. */
 #ifndef PLAIN_H
 #define PLAIN_H
 
 #include "talungbisay.h"
+
+/* Does what talung_open does, and answers the same. */
+uint64_t plain_open(const uint16_t *words, size_t n, uint8_t *table, size_t m);
 
 /* Does what talung_close does, and answers the same. */
 uint64_t plain_close(const uint16_t *words, size_t n, uint8_t *table, size_t m);

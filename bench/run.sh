@@ -1,5 +1,5 @@
 #!/bin/sh
-# Measures the product's calls beside plain C versions of the same methods, and compares all that they answer: closing, the search, reading and writing texts.
+# Measures the product's calls beside plain C versions of the same methods, and compares all that they answer: opening, closing, the search and the text calls.
 # It needs dist/, which 'make lib' fills; what it builds itself goes to target/bench/. On another kind of machine than x86-64 it compares what the library answers
 # under the emulator, and then measures the library's module as compiled for that machine.
 # Where code lies in memory can change a time by a third. So the program is linked sixteen times, with the code of both versions moved on by 240 bytes each time,

@@ -12,6 +12,7 @@ enum {
     MEGABYTE = 1000000,
     BUDGET = 10000,
     CLOSED_GROUPS = 8,
+    OPENED_GROUPS = 8,
     SEARCHED_GROUPS = 10,
     TEXT_GROUPS = 10
 };
@@ -34,7 +35,7 @@ struct sheet {
 };
 
 /* What is done with the sheets of a group. */
-enum task { CLOSE, SEARCH, READ, WRITE };
+enum task { CLOSE, OPEN, SEARCH, READ, WRITE };
 
 /* Sheets with the same task. With each of them as many bytes are lent as the group says: its table or its room, and bytes past it, which must stay as they
    came. A group that lends more than MOST_TABLE has at most FULL_SHEETS sheets. */
@@ -46,8 +47,9 @@ struct group {
     struct sheet sheets[MOST_SHEETS];
 };
 
-/* Make the groups, the same in every run. */
+/* Make the groups, the same in every run. Those that are opened have sheets of those that are closed. */
 void make_closed_groups(struct group groups[CLOSED_GROUPS]);
+void make_opened_groups(struct group groups[OPENED_GROUPS], const struct group closed[CLOSED_GROUPS]);
 void make_searched_groups(struct group groups[SEARCHED_GROUPS]);
 void make_text_groups(struct group groups[TEXT_GROUPS]);
 

@@ -119,6 +119,12 @@ void keep_site(struct sheet *s, const struct site *site)
 
 /* ---- descriptions */
 
+void fill_table(uint8_t table[MOST_TABLE])
+{
+    for (size_t k = 0; k < MOST_TABLE; k++)
+        table[k] = TALUNG_ANY;
+}
+
 void begin(struct sheet *s, size_t boards)
 {
     s->words[0] = boards;
@@ -131,8 +137,7 @@ void begin(struct sheet *s, size_t boards)
     s->m = boards * boards;
     s->budget = BUDGET;
     s->number = 0;
-    for (size_t k = 0; k < MOST_TABLE; k++)
-        s->table[k] = 15;
+    fill_table(s->table);
     for (size_t k = 0; k < TALUNG_MOST_CELLS; k++)
         s->site[k] = 0;
 }

@@ -28,6 +28,9 @@ void grow(struct site *site, size_t boards, size_t places);
 /* Grows a site of panels that all have this number of ways, and one code. */
 void grow_alike(struct site *site, size_t boards, size_t ways);
 
+/* Makes a table full: of no two boards anything is known. */
+void fill_table(uint8_t table[MOST_TABLE]);
+
 /* A description with no lines yet, and a full table. */
 void begin(struct sheet *s, size_t boards);
 

@@ -1,4 +1,4 @@
-// Closing under a description that was read: first the rules that need no second look (1, 4 and 5), then rounds of the others.
+// Closing and opening under a description that was read: first the rules that need no second look (1, 4 and 5), then rounds of the others.
 ghost use mathlib.Core.Path.{_≡_};
 ghost use lib.ListN.{length};
 ghost use Rattle.rules.specs.Calls.{opening, close};

@@ -4,7 +4,7 @@ use mathlib.Core.List.{List}
 use Prim.Native.Nat.{ℕ, _+_, _*_, _≤_}
 use native.Mathlib.Omega.{arith}
 use lib.Dec.{T, T-not}
-use lib.ListN.{length, take, replicate, length-replicate}
+use lib.ListN.{length, take, replicate}
 use Rattle.rules.specs.Relations.{full}
 use Rattle.rules.specs.Descriptions.{mostBoards, mostCells, Sheet, good, read}
 use Rattle.rules.specs.Tables.{Table, filled, emptied, total}
@@ -21,7 +21,7 @@ use Rattle.headers.specs.declared.Header.{Header}
 use Rattle.sheet.proofs.Described.{described}
 use Rattle.sweeps.specs.declared.Swept.{Swept}
 use Rattle.sweeps.specs.declared.Swept.the-variants.{Struck, Emptied}
-use Rattle.tables.proofs.Shapes.{square-small}
+use Rattle.tables.proofs.Shapes.{square-small, cells-fit}
 use Rattle.closing.specs.Closes.{Measured, Admitted, Closes, closes, ClosesUnder, ClosedInto}
 
 -- ---- a table closed into the lent one
@@ -85,8 +85,7 @@ module _ {h : Header} {ws t : List ℕ} (measured : Measured h ws t) where
   -- as many cells are in a room of full ones, and those taken are the full table
   module _ {r : List ℕ} (room : r ≡ replicate mostCells full) where
     pub full-fits : length t ≤ length r
-    full-fits =
-        let e = measured .cells in omega (arith, square-small (h .boards) few, ap length room ∙ length-replicate mostCells full)
+    full-fits = cells-fit (h .boards) full t few (measured .cells) room
 
     pub full-taken : take (length t) r ≡ filled (h .boards)
     full-taken =

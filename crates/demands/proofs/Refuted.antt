@@ -170,18 +170,26 @@ among = record { boards = refl; lines = λ l m. ⊎-elim (λ e. List·Memᴰ·he
 cell01 : {u w : List ℕ} → u ≡ w → getD u 1 0 ≡ getD w 1 0
 cell01 e = ap (λ (w : List ℕ). getD w 1 0) e
 
+-- what each closing of the full table comes to under the first description, and under the second, where it does as demand 3 asks
+module _ {Each : ClosingSentence → Type 0} (sentences : ClosesEach Each) (a : Answer) (w : List ℕ) where
+  first-left : ((P : ClosingSentence) → Each P → P firstSheet (filled 2) a w) → (a .number ≡ 0) × (w ≡ between) × (a .count ≡ 10)
+  first-left one =
+      let is = computed .first-closing in
+      let c = closed-by sentences firstSheet (filled 2) a w one (full-table 2) (ap emptied is ∙ computed .between-whole) in
+      let counted : a .count + 6 ≡ 16 = ap (λ (n : ℕ). a .count + n) (sym (ap total is ∙ computed .between-total)) ∙ c .2 ∙ computed .full-total in
+      (c .0, c .1 ∙ is, omega arith)
+
+  second-left : ((P : ClosingSentence) → Each P → P secondSheet (filled 2) a w) → (a .number ≡ 0) × (w ≡ oneBoard)
+  second-left one =
+      let is = computed .single-closing in
+      let c = closed-by sentences secondSheet (filled 2) a w one (full-table 2) (ap emptied is ∙ computed .one-board-whole) in (c .0, c .1 ∙ is)
+
 -- ---- demand 3
 
 module _ {Opens Closes : TableCall} (demand : Demand3 Opens Closes) where
   -- the closing at the first stage, at the second, and at once
   first-closed : (a : Answer) (w : List ℕ) → Closes first (filled 2) a w → (a .number ≡ 0) × (w ≡ between) × (a .count ≡ 10)
-  first-closed a w call =
-      let is = computed .first-closing in
-      let c =
-      closed-by (demand .closing) firstSheet (filled 2) a w (λ P each. each first firstSheet (computed .first-means) (filled 2) (full-table 2) a w call)
-      (full-table 2) (ap emptied is ∙ computed .between-whole) in
-      let counted : a .count + 6 ≡ 16 = ap (λ (n : ℕ). a .count + n) (sym (ap total is ∙ computed .between-total)) ∙ c .2 ∙ computed .full-total in
-      (c .0, c .1 ∙ is, omega arith)
+  first-closed a w call = first-left (demand .closing) a w (λ P each. each first firstSheet (computed .first-means) (filled 2) (full-table 2) a w call)
 
   second-closed : (a : Answer) (w : List ℕ) → Closes second between a w → w ≡ oneBoard
   second-closed a w call =
@@ -192,12 +200,7 @@ module _ {Opens Closes : TableCall} (demand : Demand3 Opens Closes) where
       ∙ is
 
   single-closed : (a : Answer) (w : List ℕ) → Closes second (filled 2) a w → (a .number ≡ 0) × (w ≡ oneBoard)
-  single-closed a w call =
-      let is = computed .single-closing in
-      let c =
-      closed-by (demand .closing) secondSheet (filled 2) a w (λ P each. each second secondSheet (computed .second-means) (filled 2) (full-table 2) a w call)
-      (full-table 2) (ap emptied is ∙ computed .one-board-whole) in
-      (c .0, c .1 ∙ is)
+  single-closed a w call = second-left (demand .closing) a w (λ P each. each second secondSheet (computed .second-means) (filled 2) (full-table 2) a w call)
 
   -- a closing that always says contradictory
   pub always-contradictory-excluded : (a : Answer) (w : List ℕ) → a .number ≡ 7 → Closes first (filled 2) a w → ⊥
@@ -232,21 +235,10 @@ module _ {Opens Closes : TableCall} (demand : Demand3 Opens Closes) where
 module _ {Reads : List ℕ → Answer → Type 0} {Opens Closes Calls : TableCall} (demand-1 : Demand1 Reads Opens Calls) (demand-3 : Demand3 Opens Closes) where
   -- the opening under the first description and under the second, whatever the four cells hold
   first-opened : (t : List ℕ) → Cells 2 t → (a : Answer) (w : List ℕ) → Opens first t a w → (a .number ≡ 0) × (w ≡ between) × (a .count ≡ 10)
-  first-opened t cells a w call =
-      let is = computed .first-closing in
-      let c =
-      closed-by (demand-3 .opening) firstSheet (filled 2) a w (λ P each. each first firstSheet (computed .first-means) t cells a w call)
-      (full-table 2) (ap emptied is ∙ computed .between-whole) in
-      let counted : a .count + 6 ≡ 16 = ap (λ (n : ℕ). a .count + n) (sym (ap total is ∙ computed .between-total)) ∙ c .2 ∙ computed .full-total in
-      (c .0, c .1 ∙ is, omega arith)
+  first-opened t cells a w call = first-left (demand-3 .opening) a w (λ P each. each first firstSheet (computed .first-means) t cells a w call)
 
   second-opened : (t : List ℕ) → Cells 2 t → (a : Answer) (w : List ℕ) → Opens second t a w → (a .number ≡ 0) × (w ≡ oneBoard)
-  second-opened t cells a w call =
-      let is = computed .single-closing in
-      let c =
-      closed-by (demand-3 .opening) secondSheet (filled 2) a w (λ P each. each second secondSheet (computed .second-means) t cells a w call)
-      (full-table 2) (ap emptied is ∙ computed .one-board-whole) in
-      (c .0, c .1 ∙ is)
+  second-opened t cells a w call = second-left (demand-3 .opening) a w (λ P each. each second secondSheet (computed .second-means) t cells a w call)
 
   -- an opening that gives 6 for old contents: here no cell is a set
   pub six-for-old-contents-excluded : (a : Answer) (w : List ℕ) → a .number ≡ 6 → Opens first (stale 2) a w → ⊥

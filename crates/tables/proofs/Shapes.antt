@@ -24,13 +24,14 @@ use Rattle.tables.specs.Asks.{asks}
 pub square-small : (v : ℕ) → v ≤ mostBoards → v * v ≤ mostCells
 square-small v h = let l : v * v ≤ mostBoards * v = mul-le-mul-right v h in omega arith
 
-ready-fits : {v : ℕ} {t : List ℕ} → Ready v t → length t ≤ mostCells
-ready-fits {v} r = let e = r .table .cells in omega (arith, square-small v (r .boards))
+-- as many cells as v boards need are in a room of as many as a table has at most
+pub cells-fit : (v x : ℕ) (t : List ℕ) {r : List ℕ} → v ≤ mostBoards → length t ≡ v * v → r ≡ replicate mostCells x → length t ≤ length r
+cells-fit v x t few cells room = omega (arith, square-small v few, ap length room ∙ length-replicate mostCells x)
 
 -- a table fits in the room for one, where as many cells are taken for it
 module _ {v : ℕ} {t r : List ℕ} (ready : Ready v t) (room : r ≡ replicate mostCells 0) where
   pub room-fits : length t ≤ length r
-  room-fits = omega (arith, ready-fits ready, ap length room ∙ length-replicate {A = ℕ} mostCells 0)
+  room-fits = cells-fit v 0 t (ready .boards) (ready .table .cells) room
 
   pub room-taken : length (take (length t) r) ≡ length t
   room-taken = length-take-le (length t) r room-fits

@@ -40,14 +40,14 @@ module _ (e : End) (b : ℕ) where
   one-arrangement u w RanOut r m n f g p q = cc
 
 -- how it ends
-pub choose-determined : OneResult 5 choose-kinds.ps choose-kinds.r choose.Asked choose.Learnt
+pub choose-determined : OneResult 7 choose-kinds.ps choose-kinds.r choose.Asked choose.Learnt
 choose-determined κs a asked x y d e p q =
-    let s = described (a .1 .0 .now) (a .0) (asked .header) in
-    one-end _ _ (d .1 .1 .1 .1 .1 .1 .0 .now) (e .1 .1 .1 .1 .1 .1 .0 .now) x y (p (s .0) (s .1 .means)) (q (s .0) (s .1 .means))
+    let s = described (a .1 .0 .now) (a .0) (asked .told .header) in
+    one-end _ _ (d .1 .1 .1 .1 .1 .1 .1 .0 .now) (e .1 .1 .1 .1 .1 .1 .1 .0 .now) x y (p (s .0) (s .1 .means)) (q (s .0) (s .1 .means))
 
 -- the cells of an arrangement
-pub choose-cells-determined : OfTwo 5 choose-kinds.ps choose-kinds.r choose.Asked choose.Learnt
-    (λ κs x y d e. (m n : ℕ) → x ≡ Arranged m → y ≡ Arranged n → d .1 .1 .1 .1 .1 .1 .0 .now ≡ e .1 .1 .1 .1 .1 .1 .0 .now)
+pub choose-cells-determined : OfTwo 7 choose-kinds.ps choose-kinds.r choose.Asked choose.Learnt
+    (λ κs x y d e. (m n : ℕ) → x ≡ Arranged m → y ≡ Arranged n → d .1 .1 .1 .1 .1 .1 .1 .0 .now ≡ e .1 .1 .1 .1 .1 .1 .1 .0 .now)
 choose-cells-determined κs a asked x y d e p q m n =
-    let s = described (a .1 .0 .now) (a .0) (asked .header) in
-    one-arrangement _ _ (d .1 .1 .1 .1 .1 .1 .0 .now) (e .1 .1 .1 .1 .1 .1 .0 .now) x y m n (p (s .0) (s .1 .means)) (q (s .0) (s .1 .means))
+    let s = described (a .1 .0 .now) (a .0) (asked .told .header) in
+    one-arrangement _ _ (d .1 .1 .1 .1 .1 .1 .1 .0 .now) (e .1 .1 .1 .1 .1 .1 .1 .0 .now) x y m n (p (s .0) (s .1 .means)) (q (s .0) (s .1 .means))

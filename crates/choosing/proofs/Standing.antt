@@ -1,11 +1,13 @@
 -- The table at each pair, by the choices that stand: it is closed and without an empty cell, and closing again from the first table under the choices
 -- comes to it. Assumes nothing.
 use mathlib.Core.Path.{_≡_, refl, sym, _∙_, subst}
+use mathlib.Core.Logic.{⊎-elim}
 use mathlib.Core.List.{List, [], _∷_}
 use Prim.Native.Nat.{ℕ, zero, suc, _^_, _≤_, _<_}
 use native.Mathlib.Omega.{arith}
 use lib.Dec.{T}
 use lib.ListN.{length, getD, set, length-set}
+use lib.Seq.{getD-set-same}
 use Rattle.rules.specs.Relations.{relations, setLimit, has, _liesWithin_}
 use Rattle.rules.specs.Descriptions.{Sheet}
 use Rattle.rules.specs.Tables.{Table, Inside}
@@ -13,7 +15,8 @@ use Rattle.rules.specs.Closed.{Closed, Largest}
 use Rattle.rules.specs.Closing.{closing}
 use Rattle.rules.specs.Search.{Order, places}
 use Rattle.rules.proofs.Digits.{has-small}
-use Rattle.rules.proofs.Sets.{lies-refl}
+use Rattle.rules.proofs.Tests.{below-suc}
+use Rattle.rules.proofs.Sets.{lies-refl, lies-eq, lies-trans}
 use Rattle.rules.proofs.Inside.{inside-refl, inside-trans}
 use Rattle.rules.proofs.Strikes.{set-each}
 use Rattle.rules.proofs.Narrowing.{narrowed-table, narrowed-inside, narrowed-at}
@@ -21,7 +24,7 @@ use Rattle.rules.proofs.Largest.{closing-largest}
 use Rattle.orders.specs.Orders.{still, pick}
 use Rattle.orders.proofs.Picking.{pick-still, still-has, still-none}
 use Rattle.choosing.specs.Pairs.{pairCell}
-use Rattle.choosing.specs.Choices.{rebuilt}
+use Rattle.choosing.specs.Choices.{Chosen, Standing, Restored}
 use Rattle.choosing.specs.Standings.{stood, Whole, ChoicesStand}
 use Rattle.choosing.proofs.Walking.{place-cell}
 
@@ -129,17 +132,6 @@ module _ (s : Sheet) {ord : List ℕ} (order : Order ord) (first cs : List ℕ) 
         let n = closes-next m (omega arith) (w .table) (largest-self (w .table) (w .closed)) c in
         record { table = n .table; closed = n .closed; filled = e .filled }
 
-    -- closing again from the first table under the choices comes to the table at the pair
-    pub rebuilt-at : (m : ℕ) → m ≤ i → Table (s .boards) (rebuilt (s .boards) ord cs first m) × Largest s (rebuilt (s .boards) ord cs first m) (at-pair m)
-    unfolding stood rebuilt
-    rebuilt-at zero l = (stands .whole .table, largest-self (stands .whole .table) (stands .whole .closed))
-    rebuilt-at (suc m) l =
-        let w = whole-at m (omega arith) in
-        let e = stands .each m l in
-        let c = choice-at m (w .table) (e .some) (e .among) in
-        let b = rebuilt-at m (omega arith) in
-        (table-narrowed m (b .0) (choice-in (b .1) c), closes-next m (omega arith) (b .0) (b .1) c)
-
     pub inside-at : (m : ℕ) → m ≤ i → Inside (at-pair m) first
     unfolding stood
     inside-at zero l = inside-refl first
@@ -150,12 +142,51 @@ module _ (s : Sheet) {ord : List ℕ} (order : Order ord) (first cs : List ℕ) 
         inside-trans (closes-next m (omega arith) (w .table) (largest-self (w .table) (w .closed)) c .inside)
         (inside-trans (inside-narrowed m c (w .table)) (inside-at m (omega arith)))
 
-    pub rebuilt-inside : (m : ℕ) → m ≤ i → Inside (rebuilt (s .boards) ord cs first m) first
-    unfolding rebuilt
-    rebuilt-inside zero l = inside-refl first
-    rebuilt-inside (suc m) l =
+    -- the table at the next pair, by the choice at this one
+    next-at : (m : ℕ) → m < i → Largest s (narrowed-to m (at-pair m)) (at-pair (suc m)) × Inside (narrowed-to m (at-pair m)) (at-pair m)
+    next-at m l =
         let w = whole-at m (omega arith) in
         let e = stands .each m l in
         let c = choice-at m (w .table) (e .some) (e .among) in
-        let b = rebuilt-at m (omega arith) in
-        inside-trans (inside-narrowed m (choice-in (b .1) c) (b .0)) (rebuilt-inside m (omega arith))
+        (closes-next m (omega arith) (w .table) (largest-self (w .table) (w .closed)) c, inside-narrowed m c (w .table))
+
+    -- each pair before lies within its choice there
+    picks-at : (m : ℕ) → m ≤ i → (j : ℕ) → j < m → getD (at-pair m) (pairCell (s .boards) j) 0 liesWithin pick ord (getD cs j 0)
+    picks-at zero l j h = let z : ⊥ = omega arith in absurd z
+    picks-at (suc m) l j h = ⊎-elim (picked m l) (λ b. lies-trans (inside-trans (next-at m l .0 .inside) (next-at m l .1) .each (pairCell (s .boards) j)) (picks-at m (omega arith) j b)) (below-suc h)
+      where
+        picked : (m : ℕ) → m < i → j ≡ m → getD (at-pair (suc m)) (pairCell (s .boards) j) 0 liesWithin pick ord (getD cs j 0)
+        picked m l e =
+            subst (λ (n : ℕ). getD (at-pair (suc m)) (pairCell (s .boards) n) 0 liesWithin pick ord (getD cs n 0)) (sym e)
+            (subst (λ (x : ℕ). getD (at-pair (suc m)) (pairCell (s .boards) m) 0 liesWithin x)
+            (getD-set-same (at-pair m) (pairCell (s .boards) m) (pick ord (getD cs m 0)) 0
+            (subst (λ (n : ℕ). pairCell (s .boards) m < n) (sym (whole-at m (omega arith) .table .cells)) (place-cell (s .boards) m (omega arith))))
+            (next-at m l .0 .inside .each (pairCell (s .boards) m)))
+
+    chosen-at : (m : ℕ) → m ≤ i → Chosen (s .boards) ord cs first m (at-pair m)
+    chosen-at m l =
+        record { inside = inside-at m l; turned = λ p q hp hq. lies-eq (whole-at m l .closed .rule2 p q hp hq); picks = picks-at m l }
+
+    -- so some table stands under the choices before it
+    pub standing-at : (m : ℕ) → m ≤ i → Standing (s .boards) ord cs first m
+    standing-at m l = let w = whole-at m l in record { x = at-pair m; table = w .table; filled = w .filled; chosen = chosen-at m l }
+
+    -- every closed table in which these choices stand is inside it
+    inside-stood : (m : ℕ) → m ≤ i → (y : List ℕ) → Table (s .boards) y → Closed s y → Inside y first
+        → ((j : ℕ) → j < m → getD y (pairCell (s .boards) j) 0 liesWithin pick ord (getD cs j 0)) → Inside y (at-pair m)
+    unfolding stood
+    inside-stood zero l y h c k f = k
+    inside-stood (suc m) l y h c k f =
+        next-at m l .0 .largest y h c
+        (inside-set (pairCell (s .boards) m) (pick ord (getD cs m 0)) (inside-stood m (omega arith) y h c k (λ j b. f j (omega arith))) (f m (omega arith)))
+
+    -- closing again from the first table, narrowed by the choices, comes to the table at the pair
+    pub restored-closes : (m : ℕ) → m ≤ i → {w k : List ℕ} → Restored (s .boards) ord cs first m w k → Largest s w (at-pair m)
+    restored-closes m l r =
+        let t = whole-at m l in
+        record {
+          table = t .table;
+          closed = t .closed;
+          inside = r .moved .keeps (at-pair m) (chosen-at m l) (inside-at m l);
+          largest = λ y h c j. inside-stood m l y h c (inside-trans j (r .moved .inside)) (λ n b. lies-trans (j .each (pairCell (s .boards) n)) (r .picks n b));
+        }

@@ -32,7 +32,7 @@ use Rattle.choosing.specs.Choices.{Passed, Several, NextOpen}
 use Rattle.choosing.specs.Standings.{elseEnd, stood, trying, resume, ahead, ChoiceMade, Whole, ChoicesStand, Due, due}
 use Rattle.choosing.specs.Tries.{retreats, Tried}
 use Rattle.choosing.proofs.Walking.{pair-within, place-cell}
-use Rattle.choosing.proofs.Standing.{largest-self, inside-set, set-inside, Choice, choice-in, choice-at, table-narrowed, inside-narrowed, closes-next, rebuilt-at, inside-at, rebuilt-inside}
+use Rattle.choosing.proofs.Standing.{largest-self, inside-set, set-inside, Choice, choice-in, choice-at, table-narrowed, inside-narrowed, closes-next, inside-at, restored-closes}
 use Rattle.choosing.proofs.Resuming.{later-zero, tries-later, then-none, attempt-next, attempt-still, proceed-none, proceed-on, drop-all, choose-none, stood-same, resume-same, resume-more, resume-later, resume-found, resume-back, resume-spent}
 
 -- ---- the choices that stand
@@ -252,22 +252,22 @@ module _ (s : Sheet) {ord : List ℕ} (order : Order ord) (first : List ℕ) whe
     within : i < length (places v)
     within = pair-within (try .pair) (try .within)
 
-    the-choice : Choice ord (stand cs i) (pairCell v i) (getD cs i 0)
-    the-choice = choice-at s order first cs small i (try .closes .table) (try .some) (try .among)
+    pub tried-choice : Choice ord (stand cs i) (pairCell v i) (getD cs i 0)
+    tried-choice = choice-at s order first cs small i (try .closes .table) (try .some) (try .among)
 
     -- the cells with the choice written in
     abbrev pub tried-cells : List ℕ
     tried-cells = set u (pairCell v i) (pick ord (getD cs i 0))
 
     pub tried-table : Table v tried-cells
-    tried-table = table-narrowed s order first cs small i (try .table) (choice-in (try .closes) the-choice)
+    tried-table = table-narrowed s order first cs small i (try .table) (choice-in (try .closes) tried-choice)
 
-    pub tried-inside : Inside tried-cells first
-    tried-inside = inside-trans (inside-narrowed s order first cs small i (choice-in (try .closes) the-choice) (try .table)) (try .inside)
+    pub tried-within : Inside tried-cells u
+    tried-within = inside-narrowed s order first cs small i (choice-in (try .closes) tried-choice) (try .table)
 
     -- they close to the table at the next pair
     tried-closes : Largest s tried-cells (stand cs (suc i))
-    tried-closes = closes-next s order first cs small i within (try .table) (try .closes) the-choice
+    tried-closes = closes-next s order first cs small i within (try .table) (try .closes) tried-choice
 
     -- what a try comes to, and then the relations that are left
     made : trying clo ord v first cs i (still ord (getD cs i 0))
@@ -276,10 +276,10 @@ module _ (s : Sheet) {ord : List ℕ} (order : Order ord) (first : List ℕ) whe
     made =
         let k = pairCell v i in
         let go : List ℕ → End = λ t. choose clo ord (drop (suc i) (places v)) t in
-        ap (attempt clo go k (stand cs i)) (the-choice .few)
-        ∙ attempt-next clo go k (stand cs i) (the-choice .r) (the-choice .rest) (the-choice .member)
+        ap (attempt clo go k (stand cs i)) (tried-choice .few)
+        ∙ attempt-next clo go k (stand cs i) (tried-choice .r) (tried-choice .rest) (tried-choice .member)
         ∙ ap₂ (λ (x : ℕ) (rs : List ℕ). later 1 (elseEnd (proceed go (clo (set (stand cs i) k x))) (attempt clo go k (stand cs i) rs)))
-        (sym (the-choice .picks)) (sym (still-less ord (order .once) (getD cs i 0) (the-choice .r) (the-choice .rest) (small i) (the-choice .small) (the-choice .few)))
+        (sym (tried-choice .picks)) (sym (still-less ord (order .once) (getD cs i 0) (tried-choice .r) (tried-choice .rest) (small i) (tried-choice .small) (tried-choice .few)))
 
     pub comes : ahead clo ord v first cs u (Try at)
         ≡ later 1 (resume clo ord v first cs i (elseEnd (proceed (λ t. choose clo ord (drop (suc i) (places v)) t) (stand cs (suc i))) (trying clo ord v first cs i (still ord (unpicked ord (getD cs i 0))))))
@@ -340,13 +340,12 @@ module _ (s : Sheet) {ord : List ℕ} (order : Order ord) (first : List ℕ) whe
           let e : j + d ≡ i = omega arith in
           ap left (sym e) ∙ left-back j d (λ m l k. f m l (subst (λ (n : ℕ). m ≤ n) e k))
 
-      pub try-back : (ds w : List ℕ) (next : Next) → retreats v ord first at cs ds w next → Tried s ord first at cs ds w next
-      try-back ds w (Try to) (b, e) =
+      pub try-back : (ds w k : List ℕ) (next : Next) → retreats v ord first at cs ds w k next → Tried s ord first at cs ds w next
+      try-back ds w k (Try to) (b, e) =
           let j = to .index in
           let stands : ChoicesStand s ord first ds j = stands-same cs ds j (b .before) (stands-fewer (b .most) (try .stands)) in
           let l : j ≤ length (places v) = let h : j ≤ i = b .most in let k : i < length (places v) = within in omega arith in
           let here : stand ds j ≡ stand cs j = stood-same clo ord v first cs ds j (b .before) in
-          let re = rebuilt-at s order first ds (b .bytes .small) l stands j (omega arith) in
           record {
             due =
                 record {
@@ -358,9 +357,9 @@ module _ (s : Sheet) {ord : List ℕ} (order : Order ord) (first : List ℕ) whe
                   among =
                       subst (λ (x : List ℕ). getD ds j 0 liesWithin getD x (pairCell v j) 0) (sym here)
                       (subst (λ (c : ℕ). c liesWithin getD (stand cs j) (pairCell v j) 0) (sym (b .here)) (lies-trans (meet-left (getD cs j 0) (complement (pick ord (getD cs j 0)))) (among-at j (b .most))));
-                  table = subst (Table v) (sym e) (re .0);
-                  inside = subst (λ (x : List ℕ). Inside x first) (sym e) (rebuilt-inside s order first ds (b .bytes .small) l stands j (omega arith));
-                  closes = subst (λ (x : List ℕ). Largest s x (stand ds j)) (sym e) (re .1);
+                  table = e .moved .fit .ready .table;
+                  inside = e .moved .inside;
+                  closes = restored-closes s order first ds (b .bytes .small) l stands j (omega arith) e;
                 };
             ahead =
                 comes-left ∙ ap (later 1)
@@ -373,8 +372,8 @@ module _ (s : Sheet) {ord : List ℕ} (order : Order ord) (first : List ℕ) whe
           among-at j h =
               ⊎-elim (λ (e : j ≡ i). subst (λ (n : ℕ). getD cs n 0 liesWithin getD (stand cs n) (pairCell v n) 0) (sym e) (try .among)) (λ l. try .stands .each j l .among)
               (below-suc (le-below h))
-      try-back ds w Found z = absurd z
-      try-back ds w Spent f =
+      try-back ds w k Found z = absurd z
+      try-back ds w k Spent f =
           record {
             due = tt;
             ahead =

@@ -1,10 +1,14 @@
 -- Choices of the search, over any order: the bytes that remember which relations of a set are still to be tried. Assumes nothing.
 use mathlib.Core.Path.{_≡_}
 use mathlib.Core.List.{List}
-use Prim.Native.Nat.{ℕ, zero, suc, _≤_, _<_}
-use lib.ListN.{length, getD, set}
-use Rattle.rules.specs.Relations.{setLimit, size}
+use Prim.Native.Nat.{ℕ, _≤_, _<_}
+use lib.ListN.{length, getD, replicate}
+use Rattle.rules.specs.Relations.{setLimit, size, _liesWithin_, converse}
+use Rattle.rules.specs.Descriptions.{mostBoards}
+use Rattle.rules.specs.Tables.{cell, Table, Inside}
 use Rattle.rules.specs.Search.{places}
+use Rattle.passes.specs.Passes.{Filled}
+use Rattle.moves.specs.Moves.{Moved}
 use Rattle.orders.specs.Orders.{pick, unpicked}
 use Rattle.choosing.specs.declared.pairs.Pair.{Pair}
 use Rattle.choosing.specs.declared.choices.Next.{Next}
@@ -54,7 +58,20 @@ LastOpen v ord cs i ds (Try at) = Back v ord cs i ds at
 LastOpen v ord cs i ds Found = ⊥
 LastOpen v ord cs i ds Spent = (m : ℕ) → m ≤ i → unpicked ord (getD cs m 0) ≡ 0
 
--- the table t with the choices of the first n pairs written in
-unfoldable pub rebuilt : ℕ → List ℕ → List ℕ → List ℕ → ℕ → List ℕ
-rebuilt v ord cs t zero = t
-rebuilt v ord cs t (suc n) = set (rebuilt v ord cs t n) (pairCell v n) (pick ord (getD cs n 0))
+-- a table inside t, turned, in which each of the first n pairs lies within its choice
+pub record Chosen (v : ℕ) (ord cs t : List ℕ) (n : ℕ) (x : List ℕ) : Type 0 where
+  pub inside : Inside x t
+  pub turned : (p q : ℕ) → p < v → q < v → cell v x q p liesWithin converse (cell v x p q)
+  pub picks : (m : ℕ) → m < n → getD x (pairCell v m) 0 liesWithin pick ord (getD cs m 0)
+
+-- some such table has no empty cell
+pub record Standing (v : ℕ) (ord cs t : List ℕ) (n : ℕ) : Type 0 where
+  pub x : List ℕ
+  pub table : Table v x
+  pub filled : Filled x
+  pub chosen : Chosen v ord cs t n x
+
+-- The table t was narrowed to w by the choices of the first n pairs, with the list of what they changed.
+pub record Restored (v : ℕ) (ord cs t : List ℕ) (n : ℕ) (w l : List ℕ) : Type 0 where
+  pub moved : Moved (Chosen v ord cs t n) v t (replicate mostBoards 0) w l
+  pub picks : (m : ℕ) → m < n → getD w (pairCell v m) 0 liesWithin pick ord (getD cs m 0)

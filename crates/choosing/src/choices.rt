@@ -5,8 +5,9 @@ ghost use lib.ListN.{length};
 ghost use Rattle.rules.specs.Descriptions.{mostBoards};
 ghost use Rattle.rules.specs.Search.{Order, places};
 ghost use Rattle.passes.specs.Passes.{Ready};
+ghost use Rattle.moves.specs.Moves.{Mutual};
 ghost use Rattle.choosing.specs.Pairs.{IsPair};
-ghost use Rattle.choosing.specs.Choices.{Bytes, NextOpen, LastOpen, rebuilt};
+ghost use Rattle.choosing.specs.Choices.{Bytes, NextOpen, LastOpen, Standing, Restored};
 use crate::pairs::Pair;
 use crate::pairs::after;
 use crate::pairs::before;
@@ -58,7 +59,7 @@ pub(crate) fn last_open(v: usize, order: &[u8], from: Pair, choices: &mut [u8]) 
     }
 }
 
-// Makes the cells those of the first table, with the choices at its first `count` pairs written in.
+// Makes the cells those of the first table, narrowed by the choices at its first `count` pairs, each of which is put on the list if it narrows anything.
 pub(crate) fn rebuild(
     v: usize,
     order: &[u8],
@@ -66,16 +67,18 @@ pub(crate) fn rebuild(
     choices: &[u8],
     count: usize,
     cells: &mut [u8],
+    marks: &mut [u32],
 )
-    requires { ⌜ Ready v (now first) × (0 < v) × Order (now order) × Bytes v (now choices) × (count ≤ length (places v)) × (length (now cells) ≡ length (now first)) ⌝ }
-    ensures { λ _. ⌜ now (cells .exit) ≡ rebuilt v (now (order .entry)) (now (choices .entry)) (now (first .entry)) count ⌝ }
+    requires { ⌜ Mutual v (now first) × (0 < v) × Order (now order) × Bytes v (now choices) × (count ≤ length (places v)) × (length (now cells) ≡ length (now first)) × (length (now marks) ≡ mostBoards) × Standing v (now order) (now choices) (now first) count ⌝ }
+    ensures { λ _. ⌜ Restored v (now (order .entry)) (now (choices .entry)) (now (first .entry)) count (now (cells .exit)) (now (marks .exit)) ⌝ }
 {
     tables::copy(first, cells);
+    moves::clear(marks);
     let mut at = start(v);
     while at.index < count {
-        let k = v * at.p + at.q;
         let i = at.index;
-        cells[k] = orders::pick(order, choices[i]);
+        let bound = orders::pick(order, choices[i]);
+        moves::strike(v, at.p, at.q, bound, cells, marks);
         at = after(v, at);
     }
 }

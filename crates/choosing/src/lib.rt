@@ -5,7 +5,8 @@ mod pairs;
 
 ghost use Rattle.rules.specs.Closing.{closing};
 ghost use Rattle.rules.specs.Search.{choose, places};
-ghost use Rattle.choosing.specs.Tries.{Failed, retreats, Under, Trying, Tried, Choosing, ends};
+ghost use Rattle.closing.specs.Closes.{Under};
+ghost use Rattle.choosing.specs.Tries.{Failed, retreats, relists, Trying, Tried, Choosing, ends};
 use crate::choices::Next;
 use crate::choices::last_open;
 use crate::choices::next_open;
@@ -14,7 +15,6 @@ use crate::pairs::Pair;
 use crate::pairs::after;
 use crate::pairs::start;
 use headers::Header;
-use sweeps::Swept;
 
 // How a search ended: with an arrangement or with none, after so many tries, or out of budget.
 pub enum Ended {
@@ -31,52 +31,58 @@ fn retreat(
     at: Pair,
     choices: &mut [u8],
     cells: &mut [u8],
+    marks: &mut [u32],
 ) -> Next
-    requires { ⌜ Failed v (now order) (now first) at (now choices) (now cells) ⌝ }
-    ensures { λ r. ⌜ retreats v (now (order .entry)) (now (first .entry)) at (now (choices .entry)) (now (choices .exit)) (now (cells .exit)) r ⌝ }
+    requires { ⌜ Failed v (now order) (now first) at (now choices) (now cells) (now marks) ⌝ }
+    ensures { λ r. ⌜ retreats v (now (order .entry)) (now (first .entry)) at (now (choices .entry)) (now (choices .exit)) (now (cells .exit)) (now (marks .exit)) r ⌝ }
 {
     let Next::Try(to) = last_open(v, order, at, choices) else {
         return Next::Spent;
     };
     let count = to.index;
-    rebuild(v, order, first, choices, count, cells);
+    rebuild(v, order, first, choices, count, cells, marks);
     Next::Try(to)
 }
 
-// Makes one try: narrows the cell of the pair to its choice, closes, and goes on or back.
+// Makes one try: narrows the cell of the pair to its choice, closes by the list, and goes on or back.
 fn attempt(
     h: Header,
     words: &[u16],
+    found: &[u32],
     order: &[u8],
     first: &[u8],
     at: Pair,
     choices: &mut [u8],
     cells: &mut [u8],
+    marks: &mut [u32],
 ) -> Next
-    requires { ⌜ Trying h (now words) (now order) (now first) at (now choices) (now cells) ⌝ }
-    ensures { λ r. ⌜ Under (now (words .entry)) (λ s. Tried s (now (order .entry)) (now (first .entry)) at (now (choices .entry)) (now (choices .exit)) (now (cells .exit)) r) ⌝ }
+    requires { ⌜ Trying h (now words) (now found) (now order) (now first) at (now choices) (now cells) (now marks) ⌝ }
+    ensures { λ r. ⌜ Under (now (words .entry)) (λ s. Tried s (now (order .entry)) (now (first .entry)) at (now (choices .entry)) (now (choices .exit)) (now (cells .exit)) r × relists s (now (cells .exit)) (now (marks .exit)) r) ⌝ }
 {
     let v = h.boards;
-    let k = v * at.p + at.q;
     let i = at.index;
-    cells[k] = orders::pick(order, choices[i]);
-    match closing::close_again(h, words, cells) {
-        Swept::Struck(_) => next_open(v, after(v, at), cells, choices),
-        Swept::Emptied => retreat(v, order, first, at, choices, cells),
+    let bound = orders::pick(order, choices[i]);
+    moves::strike(v, at.p, at.q, bound, cells, marks);
+    if closing::close_listed(h, words, found, cells, marks) {
+        return next_open(v, after(v, at), cells, choices);
     }
+    retreat(v, order, first, at, choices, cells, marks)
 }
 
-// Makes tries until every cell is single, every choice has failed or the budget is spent. The cells are those of the first table to begin with.
+// Makes tries until every cell is single, every choice has failed or the budget is spent. The cells are those of the first table to begin with. `found` tells
+// the kind lines by board.
 pub fn choose(
     h: Header,
     words: &[u16],
+    found: &[u32],
     order: &[u8],
     budget: u32,
     first: &[u8],
     choices: &mut [u8],
     cells: &mut [u8],
+    marks: &mut [u32],
 ) -> Ended
-    requires { ⌜ Choosing h (now words) (now order) (now first) (now choices) (now cells) ⌝ }
+    requires { ⌜ Choosing h (now words) (now found) (now order) (now first) (now choices) (now cells) (now marks) ⌝ }
     ensures { λ r. ⌜ Under (now (words .entry)) (λ s. ends (choose (closing s) (now (order .entry)) (places (s .boards)) (now (first .entry))) budget (now (cells .exit)) r) ⌝ }
 {
     let v = h.boards;
@@ -92,6 +98,6 @@ pub fn choose(
             return Ended::RanOut;
         }
         tries += 1;
-        next = attempt(h, words, order, first, at, choices, cells);
+        next = attempt(h, words, found, order, first, at, choices, cells, marks);
     }
 }

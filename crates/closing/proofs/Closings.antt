@@ -1,29 +1,32 @@
 -- A closing, from what its parts strike: the largest closed table, counted; or that the largest one has an empty cell. Assumes nothing.
 use mathlib.Core.Path.{_≡_, refl, sym, ap, _∙_, subst}
-use mathlib.Core.Bool.{not}
+use mathlib.Core.Bool.{Bool, true, false, not}
 use mathlib.Core.List.{List, _++_}
-use Prim.Native.Nat.{ℕ, _+_, _*_, _≤_}
+use Prim.Native.Nat.{ℕ, _+_, _*_, _≤_, _<_}
 use native.Mathlib.Omega.{arith}
 use lib.Dec.{T, eqb}
-use Rattle.rules.specs.Relations.{A, S, _liesWithin_}
-use Rattle.rules.specs.Descriptions.{Sheet, good, read}
-use Rattle.rules.specs.Tables.{Table, Inside, at, emptied, total, upTo}
+use Rattle.rules.specs.Relations.{same, E, A, S, _liesWithin_}
+use Rattle.rules.specs.Descriptions.{mostBoards, Sheet, good, read}
+use Rattle.rules.specs.Tables.{cell, Table, Inside, at, emptied, total, upTo}
 use Rattle.rules.specs.Arrangements.{way}
 use Rattle.rules.specs.Closed.{Closed}
 use Rattle.rules.specs.Closing.{Rule, Idle, lies, rules1, rules2, rules4, rules5, rules6, rules7, rules, closing}
 use Rattle.rules.proofs.Sets.{lies-trans}
-use Rattle.rules.proofs.Members.{All, all-one, all-over, all-append, append-left, append-right}
-use Rattle.rules.proofs.Inside.{inside-trans, emptied-inside}
-use Rattle.rules.proofs.Rules.{all-only, all-ways, parts-rules, rules-parts, closed-idle, idle-closed}
+use Rattle.rules.proofs.Members.{All, all-one, one-all, all-over, all-append, append-left, append-right}
+use Rattle.rules.proofs.Inside.{inside-refl, inside-trans, emptied-inside}
+use Rattle.rules.proofs.Rules.{same-small, boards-all, all-only, all-ways, parts-rules, rules-parts, closed-idle, idle-closed}
 use Rattle.rules.proofs.Largest.{closing-largest}
-use Rattle.passes.specs.Passes.{mostMembers, Idles, Once, Clash}
-use Rattle.passes.proofs.Passes.{once-then, once-from, ready-few}
+use Rattle.passes.specs.Passes.{mostMembers, Filled, Idles, Once, Clash}
+use Rattle.passes.proofs.Passes.{filled-one, once-then, once-from, ready-few, ready-place}
 use Rattle.headers.specs.declared.Header.{Header}
 use Rattle.sheet.proofs.Described.{described, described-one}
 use Rattle.sweeps.specs.declared.Swept.{Swept}
 use Rattle.sweeps.specs.declared.Swept.the-variants.{Struck, Emptied}
-use Rattle.rounds.specs.Rounds.{rulesAgain, Settled, afterRounds}
-use Rattle.closing.specs.Closes.{rulesOnce, OnceUnder, Closes, closes, ClosesUnder, Admitted}
+use Rattle.moves.specs.Moves.{Marks, Lost}
+use Rattle.sweeps.specs.Sweeps.{Selves}
+use Rattle.rounds.specs.Rounds.{rulesAgain, Settled, afterRounds, Again, Drained, drained}
+use Rattle.rounds.proofs.Owing.{idle-owed}
+use Rattle.closing.specs.Closes.{rulesOnce, OnceUnder, Closes, closes, ClosesUnder, Admitted, Listing, ClosesListed, closesListed}
 
 -- ---- rules 1, 4 and 5, and the others
 
@@ -49,7 +52,7 @@ module _ (P : Rule → Type 0) (s : Sheet) where
       let parts = rules-parts P s h in
       all-append P (rules1 (s .boards)) (parts .one) (all-append P (rules4 (s .lines)) (parts .four) (parts .five))
 
-  again-part : All P (rules s) → All P (rulesAgain (s .boards) (s .kinds))
+  pub again-part : All P (rules s) → All P (rulesAgain (s .boards) (s .kinds))
   again-part h =
       let parts = rules-parts P s h in
       all-append P (rules2 (s .boards)) (parts .two)
@@ -113,6 +116,54 @@ module _ (s : Sheet) {v : ℕ} (boards : v ≡ s .boards) where
     pub closing-again : (w : List ℕ) (r : Swept) → afterRounds v (rulesAgain v (s .kinds)) t w r → closes s t w r
     closing-again w (Struck n) k = closes-settled (subst (λ (v : ℕ). Settled v (rulesAgain v (s .kinds)) t w n) boards k)
     closing-again w Emptied f = closes-clash (subst (λ (v : ℕ). Clash v (rulesAgain v (s .kinds)) t) boards f)
+
+    -- the same by the list of pairs
+    pub closing-listed : (w n : List ℕ) (some : Bool) → drained v (s .kinds) t w n some → closesListed s t w n some
+    closing-listed w n true d = listed (subst (λ (v : ℕ). Drained v (s .kinds) t w n) boards d)
+      where
+        listed : Drained (s .boards) (s .kinds) t w n → ClosesListed s t w n
+        listed d =
+            record {
+              largest =
+                  record {
+                    table = d .fit .ready .table;
+                    closed = idle-closed s w (d .fit .ready .table) (all-parts (Idle (s .boards) w) s (steady w (d .inside)) (d .idle));
+                    inside = d .inside;
+                    largest = λ x g k i. d .keeps x (again-part (Idle (s .boards) x) s (closed-idle k)) i;
+                  };
+              fit = d .fit;
+              list = d .list;
+              cleared = d .cleared;
+            }
+    closing-listed w n false f =
+        let l = closing-largest s t table in
+        subst (λ (v : ℕ). Lost (Again v (s .kinds)) v t) boards f (closing s t) (l .table) (again-part (Idle (s .boards) (closing s t)) s (closed-idle (l .closed))) (l .inside)
+
+    -- rule 1 is one of them
+    pub steady-selves : Selves v t
+    unfolding rules1
+    steady-selves p h =
+        subst (λ (n : ℕ). cell n t p p liesWithin E) (sym boards)
+        (one-all (Idle (s .boards) t)
+        (boards-all (Idle (s .boards) t) (s .boards) _ (append-left (Idle (s .boards) t) (rules1 (s .boards)) _ (steady t (inside-refl t))) p (subst (λ (n : ℕ). p < n) boards h)))
+
+-- ---- a closed table and an empty list
+
+-- what is owed in a closed table without an empty cell is nothing
+pub closed-listing : {s : Sheet} {t m : List ℕ} → s .boards ≤ mostBoards → Table (s .boards) t → Closed s t → Filled t → Marks (s .boards) m → Listing s m t
+closed-listing {s} {t} few h c f l =
+    record {
+      fit =
+          record {
+            ready = record { boards = few; table = h };
+            mirrored = c .rule2;
+            selves = λ p b. filled-one same t (s .boards * p + p) same-small h f (ready-place (record { boards = few; table = h }) b b) (c .rule1 p b);
+            filled = f;
+          };
+      list = l;
+      owed = idle-owed (again-part (Idle (s .boards) t) s (closed-idle c));
+      steady = steady-inside s c (inside-refl t);
+    }
 
 -- ---- a closing after rules 1, 4 and 5 have struck
 

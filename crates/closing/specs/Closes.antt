@@ -1,9 +1,10 @@
 -- What closing a working copy of a table comes to. Assumes nothing.
 use mathlib.Core.Path.{_≡_}
+use mathlib.Core.Bool.{Bool, true, false}
 use mathlib.Core.List.{List, _++_}
-use Prim.Native.Nat.{ℕ, _+_, _*_}
+use Prim.Native.Nat.{ℕ, _+_, _*_, _-_}
 use lib.Dec.{T}
-use lib.ListN.{length}
+use lib.ListN.{length, take, drop}
 use Rattle.rules.specs.Descriptions.{Sheet, good, read}
 use Rattle.rules.specs.Tables.{Inside, emptied, total}
 use Rattle.rules.specs.Closed.{Largest}
@@ -15,6 +16,9 @@ use Rattle.passes.specs.Passes.{Filled, Idles, Ready, Once}
 use Rattle.headers.specs.declared.Header.{Header}
 use Rattle.headers.specs.declared.HeaderFound.the-variants.{Good}
 use Rattle.sheet.specs.Found.{descriptionFound}
+use Rattle.by_board.specs.Found.{Indexed}
+use Rattle.moves.specs.Moves.{Marks, Mutual, Owed}
+use Rattle.rounds.specs.Rounds.{Cleared}
 use Rattle.sweeps.specs.declared.Swept.{Swept}
 use Rattle.sweeps.specs.declared.Swept.the-variants.{Struck, Emptied}
 
@@ -58,3 +62,37 @@ pub record Admitted (h : Header) (ws t : List ℕ) : Type 0 where
 -- in every table inside t rules 1, 4 and 5 strike nothing, under the description that the words mean
 abbrev pub Steady : List ℕ → List ℕ → Type 0
 Steady ws t = (s : Sheet) → read ws ≡ good s → (x : List ℕ) → Inside x t → Idles (s .boards) (rulesOnce s) x
+
+-- ---- closing again by the list of pairs
+
+-- P holds of the description that the words mean
+abbrev pub Under : List ℕ → (Sheet → Type 0) → Type 0
+Under ws P = (s : Sheet) → read ws ≡ good s → P s
+
+-- the words of the kind lines
+abbrev pub kindWords : Header → List ℕ → List ℕ
+kindWords h ws = take (length ws - h .kinds .at) (drop (h .kinds .at) ws)
+
+-- A table inside a closed one, where a rule that strikes something reads a pair on the list.
+pub record Listing (s : Sheet) (m t : List ℕ) : Type 0 where
+  pub fit : Mutual (s .boards) t
+  pub list : Marks (s .boards) m
+  pub owed : Owed (s .boards) (s .kinds) m t
+  pub steady : (x : List ℕ) → Inside x t → Idles (s .boards) (rulesOnce s) x
+
+-- the header is that of a good description, and the words xs tell its kind lines by board
+pub record Told (h : Header) (ws xs : List ℕ) : Type 0 where
+  pub header : Good h ≡ descriptionFound ws
+  pub index : Indexed (h .kinds .count) (kindWords h ws) xs
+
+-- w is the largest closed table inside t, without an empty cell, and nothing is on the list
+pub record ClosesListed (s : Sheet) (t w n : List ℕ) : Type 0 where
+  pub largest : Largest s t w
+  pub fit : Mutual (s .boards) w
+  pub list : Marks (s .boards) n
+  pub cleared : Cleared (s .boards) n
+
+-- what a closing by the list comes to: that, or that the largest closed table has an empty cell
+abbrev pub closesListed : Sheet → List ℕ → List ℕ → List ℕ → Bool → Type 0
+closesListed s t w n true = ClosesListed s t w n
+closesListed s t w n false = T (emptied (closing s t))

@@ -1,9 +1,12 @@
 // Closing and opening under a description that was read: first the rules that need no second look (1, 4 and 5), then rounds of the others.
 ghost use mathlib.Core.Path.{_≡_};
-ghost use lib.ListN.{length};
+ghost use lib.ListN.{length, replicate};
 ghost use Rattle.rules.specs.Calls.{opening, close};
 ghost use Rattle.answers.specs.Answers.{outcome};
-ghost use Rattle.closing.specs.Closes.{Admitted, Measured, OnceUnder, ClosesUnder, ClosedInto, Steady};
+ghost use Rattle.headers.specs.declared.HeaderFound.the-variants.{Good};
+ghost use Rattle.sheet.specs.Found.{descriptionFound};
+ghost use Rattle.by_board.specs.Found.{indexWords};
+ghost use Rattle.closing.specs.Closes.{Admitted, Measured, OnceUnder, ClosesUnder, ClosedInto, Steady, Under, Told, Listing, closesListed};
 use answers::Answer;
 use answers::limits::HEADER_WORDS;
 use answers::refusals::CONTRADICTORY;
@@ -28,13 +31,45 @@ fn strike_once(h: Header, words: &[u16], cells: &mut [u8]) -> u32
     struck
 }
 
-// Closes cells that lie inside a closed table: there rules 1, 4 and 5 strike nothing. After `Emptied` the cells are of no use.
-pub fn close_again(h: Header, words: &[u16], cells: &mut [u8]) -> Swept
+// Closes cells in which rules 1, 4 and 5 strike nothing. After `Emptied` the cells are of no use.
+fn close_again(h: Header, words: &[u16], cells: &mut [u8]) -> Swept
     requires { ⌜ Admitted h (now words) (now cells) × Steady (now words) (now cells) ⌝ }
     ensures { λ r. ⌜ ClosesUnder (now (words .entry)) (now (cells .entry)) (now (cells .exit)) r ⌝ }
 {
     let kinds_at = h.kinds.at;
     rounds::rounds(h.boards, h.kinds.count, &words[kinds_at..], cells)
+}
+
+// Tells the kind lines of a description by board, once for all closings by a list.
+pub fn tell_kinds(h: Header, words: &[u16], found: &mut [u32])
+    requires { ⌜ (Good h ≡ descriptionFound (now words)) × (now found ≡ replicate indexWords 0) ⌝ }
+    ensures { λ _. ⌜ Told h (now (words .entry)) (now (found .exit)) ⌝ }
+{
+    let kinds_at = h.kinds.at;
+    by_board::index(h.kinds.count, &words[kinds_at..], found);
+}
+
+// Closes cells that lie inside a closed table by the list of what was narrowed in it. Says whether no cell is empty, and then nothing is on the list; else cells
+// and list are of no use.
+pub fn close_listed(
+    h: Header,
+    words: &[u16],
+    found: &[u32],
+    cells: &mut [u8],
+    marks: &mut [u32],
+) -> bool
+    requires { ⌜ Told h (now words) (now found) × Under (now words) (λ s. Listing s (now marks) (now cells)) ⌝ }
+    ensures { λ some. ⌜ Under (now (words .entry)) (λ s. closesListed s (now (cells .entry)) (now (cells .exit)) (now (marks .exit)) some) ⌝ }
+{
+    let kinds_at = h.kinds.at;
+    rounds::drain(
+        h.boards,
+        h.kinds.count,
+        &words[kinds_at..],
+        found,
+        cells,
+        marks,
+    )
 }
 
 // Closes cells under the description that the words mean; h is its header. After `Emptied` the cells are of no use.

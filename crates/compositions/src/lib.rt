@@ -10,7 +10,7 @@ use relations::RELATIONS;
 use relations::SETS;
 
 // How many pairs of sets there are.
-const SET_PAIRS: usize = SETS * SETS;
+pub const SET_PAIRS: usize = SETS * SETS;
 
 // The sixteen compositions of single relations: what p to r may be, given p to q (row) and q to r (column).
 const SINGLES: [[u8; RELATIONS]; RELATIONS] = [

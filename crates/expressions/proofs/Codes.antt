@@ -3,6 +3,7 @@ use mathlib.Core.Path.{_≡_, refl, ap, _∙_}
 use mathlib.Core.Bool.{Bool, not, _||_}
 use mathlib.Core.Logic.{⊎-elim}
 use Prim.Native.Nat.{ℕ, zero, suc, _+_, _*_, _/_, _%_, _^_, _≤_, _<_}
+use native.Mathlib.Omega.{arith}
 use lib.Dec.{T, eqb, eqb→eq}
 use lib.ListN.{length, List·getD-eq-default}
 use Rattle.rules.specs.Relations.{eachBelow}
@@ -55,6 +56,9 @@ module _ (w : ℕ) (listed : w < length codes) where
   operands-marked =
       eqb→eq (operands (code w) + 192 / 2 ^ w % 2) (2 * (240 / 2 ^ w % 2))
       (each-at (length codes) (λ w. eqb (operands (code w) + 192 / 2 ^ w % 2) (2 * (240 / 2 ^ w % 2))) tt w listed)
+
+  pub takes-few : operands (code w) ≤ 2
+  takes-few = omega (arith, operands-marked)
 
   -- where no codes but a and b take n operands, one that does and is not a is b
   pub other : (n a b : ℕ) → T (eachBelow (length codes) (only n a b)) → operands (code w) ≡ n → (w ≡ a → ⊥) → w ≡ b

@@ -7,7 +7,7 @@ ghost use Rattle.rules.specs.Relations.{setLimit};
 ghost use Rattle.rules.specs.Descriptions.{mostExpressionWords};
 ghost use Rattle.rules.specs.Expressions.{relation, codes, code, expression};
 ghost use Rattle.expressions.specs.Codes.{operands, unary, binary};
-ghost use Rattle.expressions.specs.Found.{expressionFound};
+ghost use Rattle.expressions.specs.Found.{expressionFound, scanFound};
 use answers::widths::word_number;
 
 // What stands at the front of some words: a set and the number of words after its expression; or no expression, and the number of words from the first that goes on
@@ -15,6 +15,12 @@ use answers::widths::word_number;
 pub enum Expression {
     Set(u8, usize),
     Malformed(usize),
+}
+
+// What a look at some words tells: they are one whole expression, or the number of words from the first that does not go on with one.
+pub enum Scanned {
+    Whole,
+    Fails(usize),
 }
 
 // How many codes there are.
@@ -114,4 +120,32 @@ pub fn evaluate(words: &[u16]) -> Expression
         return last;
     };
     Expression::Set(apply_two(word, x, y), rest)
+}
+
+// How many operands a code takes, by its bits.
+fn operands_of(word: usize) -> u32
+    requires { ⌜ word < length codes ⌝ }
+    ensures { λ r. ⌜ r ≡ operands (code word) ⌝ }
+{
+    2 * ((OPERATORS >> word) % 2) - (ONE_OPERAND >> word) % 2
+}
+
+// Tells whether the words are one whole expression, without its set: it counts the operands that are still needed. A code is one of these, and needs its own.
+pub fn scan(words: &[u16]) -> Scanned
+    requires { ⌜ length (now words) ≤ mostExpressionWords ⌝ }
+    ensures { λ r. ⌜ r ≡ scanFound (expression (now (words .entry))) ⌝ }
+{
+    let mut needed: u32 = 1;
+    for i in 0..words.len() {
+        let word = word_number(words[i]);
+        if needed == 0 || CODES <= word {
+            return Scanned::Fails(words.len() - i);
+        }
+        needed = needed - 1 + operands_of(word);
+    }
+    if needed == 0 {
+        Scanned::Whole
+    } else {
+        Scanned::Fails(0)
+    }
 }

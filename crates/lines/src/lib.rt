@@ -1,8 +1,10 @@
 // Relation lines, each read off the front of the words of its section.
 
 ghost use mathlib.Core.Path.{_≡_};
-ghost use Rattle.rules.specs.Descriptions.{refused, relationLine};
-ghost use Rattle.lines.specs.Found.{relationFound};
+ghost use Prim.Native.Nat.{_-_, _≤_};
+ghost use Rattle.rules.specs.Descriptions.{relationLine};
+ghost use Rattle.answers.specs.Answers.{refusal};
+ghost use Rattle.lines.specs.Found.{relationFound, relationTold, refusedFront, FrontTells};
 use answers::limits::LINE_WORDS;
 use answers::limits::MOST_EXPRESSION_WORDS;
 use answers::refusals::NO_BOARD;
@@ -11,6 +13,7 @@ use answers::refusals::Refusal;
 use answers::refusals::UNFIT;
 use answers::widths::word_number;
 use expressions::Expression;
+use expressions::Scanned;
 
 // A relation line: the relation of p to q is one of the set `allowed`.
 pub struct RelationLine {
@@ -25,16 +28,28 @@ pub enum RelationFound {
     Refused(Refusal),
 }
 
-// A line that is refused with this number, at this place from its first word.
-fn refused(number: u8, place: usize) -> RelationFound
-    ensures { λ r. ⌜ r ≡ relationFound (refused number place) ⌝ }
-{
-    RelationFound::Refused(Refusal { number, place })
+// What testing a relation line tells: the number of words after it, or why it is refused.
+pub enum LineTold {
+    Rest(usize),
+    Refused(Refusal),
 }
 
-// Reads the relation line at the front of the words, for boards below v.
-pub fn relation_line(v: usize, words: &[u16]) -> RelationFound
-    ensures { λ r. ⌜ r ≡ relationFound (relationLine v (now (words .entry))) ⌝ }
+// What a line tells before its expression is looked at: the end of its words, or why it is refused.
+enum FrontFound {
+    Ends(usize),
+    Refused(Refusal),
+}
+
+// A line that is refused with this number, at this place from its first word.
+fn refused(number: u8, place: usize) -> FrontFound
+    ensures { λ r. ⌜ r ≡ refusedFront number place ⌝ }
+{
+    FrontFound::Refused(Refusal { number, place })
+}
+
+// Tests all of the relation line at the front of the words but its expression, for boards below v: its length, that the words hold it, and its boards.
+fn front(v: usize, words: &[u16]) -> FrontFound
+    ensures { λ r. ⌜ FrontTells v (now (words .entry)) r ⌝ }
 {
     if words.len() < LINE_WORDS {
         return refused(UNFIT, words.len());
@@ -54,14 +69,51 @@ pub fn relation_line(v: usize, words: &[u16]) -> RelationFound
     if v <= q {
         return refused(NO_BOARD, 1);
     }
-    let end = LINE_WORDS + n;
+    FrontFound::Ends(LINE_WORDS + n)
+}
+
+// A line whose expression fails, where this many words of the line are left at its end.
+fn no_expression(end: usize, left: usize) -> Refusal
+    requires { ⌜ left ≤ end ⌝ }
+    ensures { λ r. ⌜ r ≡ refusal 5 (end - left) ⌝ }
+{
+    Refusal {
+        number: NO_EXPRESSION,
+        place: end - left,
+    }
+}
+
+// Reads the relation line at the front of the words, for boards below v.
+pub fn relation_line(v: usize, words: &[u16]) -> RelationFound
+    ensures { λ r. ⌜ r ≡ relationFound (relationLine v (now (words .entry))) ⌝ }
+{
+    let end = match front(v, words) {
+        FrontFound::Ends(end) => end,
+        FrontFound::Refused(r) => return RelationFound::Refused(r),
+    };
     match expressions::evaluate(&words[LINE_WORDS..end]) {
         Expression::Set(x, left) => {
             if 0 < left {
-                return refused(NO_EXPRESSION, end - left);
+                return RelationFound::Refused(no_expression(end, left));
             }
+            let p = word_number(words[0]);
+            let q = word_number(words[1]);
             RelationFound::Line(RelationLine { p, q, allowed: x }, words.len() - end)
         }
-        Expression::Malformed(left) => refused(NO_EXPRESSION, end - left),
+        Expression::Malformed(left) => RelationFound::Refused(no_expression(end, left)),
+    }
+}
+
+// Tests the relation line at the front of the words, for boards below v, and counts the words after it. The set of its expression is not found.
+pub fn relation_told(v: usize, words: &[u16]) -> LineTold
+    ensures { λ r. ⌜ r ≡ relationTold (relationLine v (now (words .entry))) ⌝ }
+{
+    let end = match front(v, words) {
+        FrontFound::Ends(end) => end,
+        FrontFound::Refused(r) => return LineTold::Refused(r),
+    };
+    match expressions::scan(&words[LINE_WORDS..end]) {
+        Scanned::Whole => LineTold::Rest(words.len() - end),
+        Scanned::Fails(left) => LineTold::Refused(no_expression(end, left)),
     }
 }

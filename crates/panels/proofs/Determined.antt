@@ -1,8 +1,24 @@
--- Any two outcomes that the contract of `rule6` permits answer one number where they leave one table. Assumes nothing.
-use Rattle.contracts.specs.Contracts.{OneResultFor}
-use Rattle.passes.proofs.Passes.{kept-determined}
-use Rattle.panels.proofs.rule6.Kinds as rule6-kinds
-use Rattle.panels.proofs.rule6.Reads as rule6
+-- What the contracts of `rule6_for` and `rule6_without_ways` determine: where two tables are left in which rules 2 and 6 strike nothing, they are one, and so is
+-- the answer. Assumes nothing.
+use Rattle.kinds.specs.Sections.{WithKinds}
+use Rattle.moves.specs.Moves.{FedFor}
+use Rattle.moves.proofs.Ending.{visits-ended, OneEnd}
+use Rattle.panels.specs.Visits.{Keeping, FedWithout}
+use Rattle.panels.proofs.rule6_for.Kinds as for-kinds
+use Rattle.panels.proofs.rule6_for.Reads as for
+use Rattle.panels.proofs.rule6_without_ways.Kinds as without-ways-kinds
+use Rattle.panels.proofs.rule6_without_ways.Reads as without-ways
 
-pub rule6-counted : OneResultFor 2 rule6-kinds.ps rule6-kinds.r rule6.Asked rule6.Learnt (λ κs e. e .1 .1 .1 .0 .now)
-rule6-counted κs a asked x y d e p q = λ same. kept-determined same (p .kept) (q .kept)
+pub rule6-for-ended : OneEnd 4 for-kinds.ps for-kinds.r for.Asked for.Learnt
+    (λ κs a w. WithKinds (a .0) (a .1 .0) (a .1 .1 .0 .now) (λ ks. Keeping (a .0) ks w)) (λ κs x. x) (λ κs e. e .1 .1 .1 .1 .1 .1 .0 .now)
+rule6-for-ended κs a asked x y d e p q f g =
+    visits-ended (Keeping (a .0)) (λ ks. FedFor (a .0) ks (a .1 .1 .1 .1 .0) (a .1 .1 .1 .1 .1 .0))
+    (a .0) (a .1 .1 .1 .1 .1 .1 .0 .now) (a .1 .1 .1 .1 .1 .1 .1 .0 .now) (d .1 .1 .1 .1 .1 .1 .0 .now) (d .1 .1 .1 .1 .1 .1 .1 .0 .now)
+    (e .1 .1 .1 .1 .1 .1 .0 .now) (e .1 .1 .1 .1 .1 .1 .1 .0 .now) x y (asked .2) p q f g
+
+pub rule6-without-ways-ended : OneEnd 4 without-ways-kinds.ps without-ways-kinds.r without-ways.Asked without-ways.Learnt
+    (λ κs a w. WithKinds (a .0) (a .1 .0) (a .1 .1 .0 .now) (λ ks. Keeping (a .0) ks w)) (λ κs x. x) (λ κs e. e .1 .1 .1 .1 .0 .now)
+rule6-without-ways-ended κs a asked x y d e p q f g =
+    visits-ended (Keeping (a .0)) (λ ks. FedWithout (a .0) ks)
+    (a .0) (a .1 .1 .1 .1 .0 .now) (a .1 .1 .1 .1 .1 .0 .now) (d .1 .1 .1 .1 .0 .now) (d .1 .1 .1 .1 .1 .0 .now)
+    (e .1 .1 .1 .1 .0 .now) (e .1 .1 .1 .1 .1 .0 .now) x y (asked .2) p q f g

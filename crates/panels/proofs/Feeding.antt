@@ -2,24 +2,30 @@
 use mathlib.Core.Path.{_≡_, refl, sym, ap, _∙_, subst}
 use mathlib.Core.Bool.{Bool, true, false, not}
 use mathlib.Core.Logic.{_⊎_, inl, inr, ⊎-elim}
-use mathlib.Core.List.{List}
+use mathlib.Core.List.{List, _++_}
 use Prim.Native.Nat.{ℕ, zero, suc, _+_, _*_, _≤_, _<_}
 use native.Mathlib.Omega.{arith}
 use borrow.Author.Count.{below-more}
 use lib.Dec.{T, eqb, eqb→eq, T-not}
 use lib.ListN.{length, getD}
-use Rattle.rules.specs.Relations.{relations, same, above, E, A, has, Lacks, meet, join, complement, _liesWithin_}
+use Rattle.rules.specs.Relations.{relations, same, above, E, A, has, Lacks, meet, join, complement, _liesWithin_, converse}
 use Rattle.rules.specs.Descriptions.{KindLine}
-use Rattle.rules.specs.Tables.{cell}
+use Rattle.rules.specs.Tables.{cell, Inside}
 use Rattle.rules.specs.Closed.{Misses}
-use Rattle.rules.specs.Closing.{reaches, bound6, bound6′, Rule, Idle, lies, waysOf, rule6}
+use Rattle.rules.specs.Closing.{reaches, bound6, bound6′, Rule, Idle, lies, boardsOf, waysOf, rules2, rule6}
 use Rattle.rules.proofs.Tests.{true-T, or-T-left, or-T-right, T-or, T-decide, T-ext, differ-T, T-differ, order-cases}
 use Rattle.rules.proofs.Digits.{has-zero, has-single}
-use Rattle.rules.proofs.Sets.{lies-eq, meet-small, meet-left, meet-right, some-member, shared, unshared-lacks, shared-has}
-use Rattle.rules.proofs.Members.{all-one, one-all, all-append, append-left, append-right}
-use Rattle.rules.proofs.Rules.{all-ways, ways-all, relations-pos, same-small, misses-not, not-misses, bound6-none, says6, said6, bound6′-alone, says6′, said6′, bound6-grows, bound6′-grows}
-use Rattle.passes.specs.Passes.{Filled, Idles, Narrowed, Ready, Pass, Quiet}
-use Rattle.passes.proofs.Passes.{filled-one, pass-still, pass-struck, ready-place}
+use Rattle.rules.proofs.Sets.{lies-eq, lies-trans, meet-small, meet-left, meet-right, complement-out, some-member, shared, unshared-lacks}
+use Rattle.rules.proofs.Members.{one-all, append-left, append-right}
+use Rattle.rules.proofs.Rules.{boards-all, ways-all, relations-pos, same-small, misses-not, not-misses, bound6-none, said6, bound6′-alone, said6′, bound6-grows, bound6′-grows}
+use Rattle.passes.specs.Passes.{Idles}
+use Rattle.passes.proofs.Passes.{filled-one, ready-place}
+use Rattle.moves.specs.Watches.{feeds, feeds′}
+use Rattle.moves.specs.Moves.{Marks, Mutual, Struck, Moved, Tended, Went, Fed}
+use Rattle.moves.proofs.Striking.{cell-some}
+use Rattle.moves.proofs.Passing.{turned}
+use Rattle.moves.proofs.Moving.{moved-none, moved-inside, lost-inside, strike-moved, strike-lost, strike-within, tended-moved, tended-struck}
+use Rattle.moves.proofs.Reading.{feeds-honest, feeds′-honest}
 use Rattle.panels.specs.Ways.{FirstReaching}
 
 -- ---- whether a set has E or A, by what it has in common with them
@@ -103,96 +109,141 @@ module _ (v : ℕ) (line : KindLine) (z : ℕ) where
   abbrev wayRule : ℕ → List Rule
   wayRule i = lies (getD ws i 0) z (λ t. bound6′ v t line i z)
 
+  -- what is to be kept: rule 2 and rule 6 strike nothing
+  abbrev Keep : List ℕ → Type 0
+  Keep = Idles v (rules2 v ++ rule6 v line z)
+
+  keep-six : (x : List ℕ) → Keep x → Idles v (rule6 v line z) x
+  keep-six x c = append-right (Idle v x) (rules2 v) (rule6 v line z) c
+
+  keep-panel : (x : List ℕ) → Keep x → cell v x p z liesWithin bound6 v x line z
+  keep-panel x c = one-all (Idle v x) (append-left (Idle v x) panelRule (waysOf line wayRule) (keep-six x c))
+
+  keep-way : (x : List ℕ) → Keep x → (i : ℕ) → i < length ws → cell v x (getD ws i 0) z liesWithin bound6′ v x line i z
+  keep-way x c i h = one-all (Idle v x) (ways-all (Idle v x) line wayRule (append-right (Idle v x) panelRule (waysOf line wayRule) (keep-six x c)) i h)
+
+  keep-turned : (x : List ℕ) → Keep x → (a : ℕ) → a < v → z < v → cell v x z a liesWithin converse (cell v x a z)
+  keep-turned x c a ha hz = turned v x (append-left (Idle v x) (rules2 v) (rule6 v line z) c) a z ha hz
+
   -- every way but way i misses z
   abbrev Alone : List ℕ → ℕ → Type 0
   Alone t i = (j : ℕ) → j < length ws → (i ≡ j → ⊥) → Misses (cell v t (getD ws j 0) z)
 
-  module _ (t : List ℕ) where
-    -- both parts of rule 6 strike nothing
-    idle6 : (((i : ℕ) → i < length ws → Misses (cell v t (getD ws i 0) z)) → Lacks (cell v t p z) above)
-        → ((i : ℕ) → i < length ws → cell v t p z liesWithin A → Alone t i → cell v t (getD ws i 0) z liesWithin join E A) → Idles v (rule6 v line z) t
-    idle6 f g =
-        all-append (Idle v t) panelRule (all-one (Idle v t) (said6 v t line z f))
-        (all-ways (Idle v t) line wayRule (λ i l. all-one (Idle v t) (said6′ v t line z i (g i l))))
+  module _ {t m : List ℕ} (fit : Mutual v t) (list : Marks v m) (p-below : p < v) (z-below : z < v) where
+    -- a cell that lies within {A} is A
+    only-above : cell v t p z liesWithin A → cell v t p z ≡ A
+    only-above s = filled-one above t (v * p + z) relations-pos (fit .ready .table) (fit .filled) (ready-place (fit .ready) p-below z-below) s
 
-    module _ (ready : Ready v t) (p-below : p < v) (z-below : z < v) where
-      inside : v * p + z < length t
-      inside = ready-place ready p-below z-below
+    -- both parts of rule 6 strike nothing in the table as it is
+    still : (((i : ℕ) → i < length ws → Misses (cell v t (getD ws i 0) z)) → Lacks (cell v t p z) above)
+        → ((i : ℕ) → i < length ws → cell v t p z liesWithin A → Alone t i → cell v t (getD ws i 0) z liesWithin join E A)
+        → Went Keep v (Fed v line z) t m t m true
+    still f g =
+        (moved-none fit list, record { panel = λ o. said6 v t line z f; ways = λ i h o. said6′ v t line z i (g i h) })
 
-      -- a cell that is not empty and lies within {A} is A
-      only-above : Filled t → cell v t p z liesWithin A → cell v t p z ≡ A
-      only-above f s = filled-one above t (v * p + z) relations-pos (ready .table) f inside s
+    -- the cell of the panel lacks A
+    pub rule6-at-lacks : meet (cell v t p z) A ≡ 0 → Went Keep v (Fed v line z) t m t m true
+    rule6-at-lacks e =
+        still (λ n. lacks)
+        (λ i h s a. absurd (T-not (has (cell v t p z) above) lacks (subst (λ (x : ℕ). T (has x above)) (sym (only-above s)) (has-single above))))
+      where
+        lacks : Lacks (cell v t p z) above
+        lacks = unshared-lacks above (cell v t p z) relations-pos e
 
-      -- the cell of the panel lacks A
-      pub rule6-at-lacks : meet (cell v t p z) A ≡ 0 → Pass (Quiet v) v (rule6 v line z) t 0 t 0
-      rule6-at-lacks e =
-          pass-still (Quiet v) (ready .table)
-          (λ r m f.
-          idle6 (λ n. lacks)
-          (λ i l s a.
-          absurd (T-not (has (cell v t p z) above) lacks (subst (λ (x : ℕ). T (has x above)) (sym (only-above f s)) (has-single above)))) r m)
+    -- no way reaches z
+    module _ {i : ℕ} (f : FirstReaching v t ws z 0 i) (e : i ≡ length ws) where
+      none : bound6 v t line z ≡ complement A
+      none = bound6-none v t line z (λ j h. not-misses (cell v t (getD ws j 0) z) (f .before j (omega arith) (omega arith)))
+
+      none-keeps : (x : List ℕ) → Inside x t × Keep x → (cell v x p z liesWithin complement A) × (cell v x z p liesWithin converse (cell v x p z))
+      none-keeps x c =
+          (lies-trans (keep-panel x (c .1)) (lies-trans (bound6-grows v (c .0) line z) (lies-eq none)), keep-turned x (c .1) p p-below z-below)
+
+      pub rule6-at-none : {w n : List ℕ} (some : Bool) → Struck v p z (complement A) t m w n some → Went Keep v (Fed v line z) t m w n some
+      rule6-at-none {w} {n} true s = (
+        moved,
+        record {
+          panel = tended-struck moved (feeds v line z) (feeds-honest v line z) (lies-trans left (lies-eq (sym none)));
+          ways = λ j h. tended-moved moved (feeds′ v line j z) (feeds′-honest v line j z) (λ o. said6′ v t line z j (λ a b. absurd (besides a)));
+        },
+      )
         where
-          lacks : Lacks (cell v t p z) above
-          lacks = unshared-lacks above (cell v t p z) relations-pos e
+          moved : Moved Keep v t m w n
+          moved = moved-inside (strike-moved fit list p-below z-below none-keeps s)
 
-      -- it has A, and no way reaches z
-      pub rule6-at-none : {i : ℕ} {w : List ℕ} {n : ℕ} → (meet (cell v t p z) A ≡ 0 → ⊥) → FirstReaching v t ws z 0 i → i ≡ length ws
-          → Narrowed t (v * p + z) (complement A) w n → Pass (Quiet v) v (rule6 v line z) t 0 w n
-      rule6-at-none {i} d f e m =
-          pass-struck (Quiet v) (rule6 v line z) (record { row = p; column = z; bound = λ t. bound6 v t line z })
-          (λ x d. one-all (Idle v x) (append-left (Idle v x) panelRule (waysOf line wayRule) d)) (λ u w i. bound6-grows v i line z) (ready .table)
-          inside (sym (bound6-none v t line z misses)) m
-          (λ unchanged s. absurd (T-not (has (cell v t p z) above) (says6 v t line z s misses) (shared-has above (cell v t p z) d)))
+          left : cell v w p z liesWithin complement A
+          left = strike-within fit list p-below z-below none-keeps s
+
+          -- something besides A is left
+          besides : cell v t p z liesWithin A → ⊥
+          besides a =
+              let (r, h, b) = some-member (moved .fit .ready .table .small (v * p + z)) (cell-some (moved .fit) p-below z-below) in
+              complement-out A r h (left .member r h b) (a .member r h (moved .inside .each (v * p + z) .member r h b))
+      rule6-at-none false s = lost-inside (strike-lost fit list p-below z-below none-keeps s)
+
+    -- way i is the first that reaches z
+    module _ {i : ℕ} (f : FirstReaching v t ws z 0 i) (h : i < length ws) where
+      misses-way : Misses (cell v t (getD ws i 0) z) → ⊥
+      misses-way m = misses-not (cell v t (getD ws i 0) z) m (f .found h)
+
+      -- and the cell of the panel has more than A
+      pub rule6-at-more : (cell v t p z ≡ A → ⊥) → Went Keep v (Fed v line z) t m t m true
+      rule6-at-more n = still (λ m. absurd (misses-way (m i h))) (λ k l s a. absurd (n (only-above s)))
+
+      -- and way j reaches it too
+      pub rule6-at-two : {j : ℕ} → FirstReaching v t ws z (i + 1) j → j < length ws → Went Keep v (Fed v line z) t m t m true
+      rule6-at-two {j} b l = still (λ m. absurd (misses-way (m i h))) (λ k o s a. absurd (both k a))
         where
-          misses : (j : ℕ) → j < length ws → Misses (cell v t (getD ws j 0) z)
-          misses j h = not-misses (cell v t (getD ws j 0) z) (f .before j (omega arith) (omega arith))
+          both : (k : ℕ) → Alone t k → ⊥
+          both k a =
+              let after : i + 1 ≤ j = b .after in
+              ⊎-elim
+              (λ e. let d : k ≡ i = eqb→eq k i e in misses-not (cell v t (getD ws j 0) z) (a j l (λ q. omega arith)) (b .found l))
+              (λ n. misses-way (a i h (T-differ n))) (T-decide (eqb k i))
 
-      -- way i is the first that reaches z
-      module _ {i : ℕ} (f : FirstReaching v t ws z 0 i) (h : i < length ws) where
-        misses-way : Misses (cell v t (getD ws i 0) z) → ⊥
-        misses-way m = misses-not (cell v t (getD ws i 0) z) m (f .found h)
+      -- and no other way does, and the cell of the panel is A
+      module _ {j : ℕ} (e : cell v t p z ≡ A) (b : FirstReaching v t ws z (i + 1) j) (l : length ws ≤ j) (y-below : getD ws i 0 < v) where
+        alone : Alone t i
+        alone k q g =
+            not-misses (cell v t (getD ws k 0) z)
+            (λ r.
+            ⊎-elim (λ (c : k < i). f .before k (omega arith) c r)
+            (λ c. ⊎-elim (λ (c : i < k). b .before k (omega arith) (omega arith) r) (λ (c : k ≡ i). g (sym c)) c) (order-cases k i))
 
-        -- and the cell of the panel has more than A
-        pub rule6-at-more : (cell v t p z ≡ A → ⊥) → Pass (Quiet v) v (rule6 v line z) t 0 t 0
-        rule6-at-more n =
-            pass-still (Quiet v) (ready .table)
-            (λ r o g. idle6 (λ m. absurd (misses-way (m i h))) (λ k l s a. absurd (n (only-above g s))) r o)
+        only : bound6′ v t line i z ≡ join E A
+        only = bound6′-alone v t line z i (lies-eq e) alone
 
-        -- and way j reaches it too
-        pub rule6-at-two : {j : ℕ} → FirstReaching v t ws z (i + 1) j → j < length ws → Pass (Quiet v) v (rule6 v line z) t 0 t 0
-        rule6-at-two {j} b l =
-            pass-still (Quiet v) (ready .table)
-            (λ r q g. idle6 (λ m. absurd (misses-way (m i h))) (λ k o s a. absurd (both k a)) r q)
+        alone-keeps : (x : List ℕ) → Inside x t × Keep x
+            → (cell v x (getD ws i 0) z liesWithin join E A) × (cell v x z (getD ws i 0) liesWithin converse (cell v x (getD ws i 0) z))
+        alone-keeps x c =
+            (lies-trans (keep-way x (c .1) i h) (lies-trans (bound6′-grows v (c .0) line i z) (lies-eq only)), keep-turned x (c .1) (getD ws i 0) y-below z-below)
+
+        struck : {w n : List ℕ} (some : Bool) → Struck v (getD ws i 0) z (join E A) t m w n some → Went Keep v (Fed v line z) t m w n some
+        struck {w} {n} true s = (
+          moved,
+          record {
+            panel = tended-moved moved (feeds v line z) (feeds-honest v line z) (λ o. said6 v t line z (λ q. absurd (misses-way (q i h))));
+            ways = λ k q. ⊎-elim (this k) (other k) (T-decide (eqb k i));
+          },
+        )
           where
-            both : (k : ℕ) → Alone t k → ⊥
-            both k a =
-                let after : i + 1 ≤ j = b .after in
-                ⊎-elim
-                (λ e. let d : k ≡ i = eqb→eq k i e in misses-not (cell v t (getD ws j 0) z) (a j l (λ q. omega arith)) (b .found l))
-                (λ n. misses-way (a i h (T-differ n))) (T-decide (eqb k i))
+            moved : Moved Keep v t m w n
+            moved = moved-inside (strike-moved fit list y-below z-below alone-keeps s)
 
-        -- and no other way does, and the cell of the panel is A
-        pub rule6-at-alone : {j y : ℕ} {w : List ℕ} {n : ℕ} → cell v t p z ≡ A → FirstReaching v t ws z (i + 1) j → length ws ≤ j → y ≡ getD ws i 0
-            → v * y + z < length t → Narrowed t (v * y + z) (join E A) w n → Pass (Quiet v) v (rule6 v line z) t 0 w n
-        rule6-at-alone {j} {y} {w} {n} e b l d o m =
-            pass-struck (Quiet v) (rule6 v line z) (record { row = getD ws i 0; column = z; bound = λ t. bound6′ v t line i z })
-            (λ x d. one-all (Idle v x) (ways-all (Idle v x) line wayRule (append-right (Idle v x) panelRule (waysOf line wayRule) d) i h))
-            (λ u w k. bound6′-grows v k line i z) (ready .table)
-            (subst (λ (x : ℕ). v * x + z < length t) d o)
-            (sym (bound6′-alone v t line z i (lies-eq e) alone))
-            (subst (λ (x : ℕ). Narrowed t (v * x + z) (join E A) w n) d m)
-            (λ unchanged s x c g. idle6 (λ q. absurd (misses-way (q i h))) (λ k q r a. this s k a) x c)
-          where
-            alone : Alone t i
-            alone k q g =
-                not-misses (cell v t (getD ws k 0) z)
-                (λ r.
-                ⊎-elim (λ (c : k < i). f .before k (omega arith) c r)
-                (λ c. ⊎-elim (λ (c : i < k). b .before k (omega arith) (omega arith) r) (λ (c : k ≡ i). g (sym c)) c) (order-cases k i))
+            left : cell v w (getD ws i 0) z liesWithin bound6′ v t line i z
+            left = lies-trans (strike-within fit list y-below z-below alone-keeps s) (lies-eq (sym only))
 
-            this : cell v t (getD ws i 0) z liesWithin bound6′ v t line i z → (k : ℕ) → Alone t k → cell v t (getD ws k 0) z liesWithin join E A
-            this s k a =
-                ⊎-elim
-                (λ c.
-                subst (λ (x : ℕ). cell v t (getD ws x 0) z liesWithin join E A) (sym (eqb→eq k i c)) (says6′ v t line z i s (lies-eq e) alone))
-                (λ c. absurd (misses-way (a i h (T-differ c)))) (T-decide (eqb k i))
+            this : (k : ℕ) → T (eqb k i) → Tended v n w (feeds′ v line k z)
+            this k c =
+                subst (λ (x : ℕ). Tended v n w (feeds′ v line x z)) (sym (eqb→eq k i c))
+                (tended-struck moved (feeds′ v line i z) (feeds′-honest v line i z) left)
+
+            other : (k : ℕ) → T (not (eqb k i)) → Tended v n w (feeds′ v line k z)
+            other k c =
+                tended-moved moved (feeds′ v line k z) (feeds′-honest v line k z)
+                (λ o. said6′ v t line z k (λ q a. absurd (misses-way (a i h (T-differ c)))))
+        struck false s = lost-inside (strike-lost fit list y-below z-below alone-keeps s)
+
+        pub rule6-at-alone : {y : ℕ} {w n : List ℕ} (some : Bool) → y ≡ getD ws i 0 → Struck v y z (join E A) t m w n some
+            → Went Keep v (Fed v line z) t m w n some
+        rule6-at-alone {w = w} {n = n} some d s = struck some (subst (λ (y : ℕ). Struck v y z (join E A) t m w n some) d s)

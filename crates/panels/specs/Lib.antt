@@ -1,2 +1,3 @@
 -- What the functions of this crate promise.
 pub mod Ways
+pub mod Visits

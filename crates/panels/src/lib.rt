@@ -1,13 +1,20 @@
-// Rule 6: nothing lies below a panel but its ways and what is below them.
+// Rule 6: nothing lies below a panel but its ways and what is below them. Each pair that loses something by it is put on the list.
 ghost use mathlib.Core.Path.{_≡_};
+ghost use mathlib.Core.List.{_++_};
 ghost use Prim.Native.Nat.{_≤_, _<_};
 ghost use lib.ListN.{length};
 ghost use Rattle.rules.specs.Relations.{setLimit};
-ghost use Rattle.rules.specs.Closing.{reaches, rule6, boardsOf};
-ghost use Rattle.passes.specs.Passes.{Ready, Pass, Quiet};
+ghost use Rattle.rules.specs.Descriptions.{mostKinds};
+ghost use Rattle.rules.specs.Closing.{reaches, rules2, rule6, rules6};
+ghost use Rattle.passes.specs.Passes.{Ready, Idles};
+ghost use Rattle.moves.specs.Moves.{Marks, Mutual, Went, Fed, FedFor};
 ghost use Rattle.kinds.specs.Lines.{lineAt, Below, StandsIn};
+ghost use Rattle.kinds.specs.Sections.{HasKinds, WithKinds};
+ghost use Rattle.by_board.specs.Found.{numbered, Indexed};
 ghost use Rattle.panels.specs.Ways.{FirstReaching};
+ghost use Rattle.panels.specs.Visits.{Site, Visit, Among, FedEach, FedWays, FedBare, FedWithout};
 use kinds::KindLine;
+use kinds::kind_at;
 use kinds::way;
 
 // Tells whether a set has E or A.
@@ -34,38 +41,157 @@ fn reaching(v: usize, ways: &[u16], z: usize, from: usize, cells: &[u8]) -> usiz
     i
 }
 
-// Rule 6 of one kind line, for one board z: if z is below the panel, it is at or below one of the ways.
-fn rule6_at(v: usize, words: &[u16], line: KindLine, z: usize, cells: &mut [u8]) -> u32
-    requires { ⌜ Ready v (now cells) × StandsIn v (now words) line × (z < v) ⌝ }
-    ensures { λ n. ⌜ Pass (Quiet v) v (rule6 v (lineAt (now (words .entry)) line) z) (now (cells .entry)) 0 (now (cells .exit)) n ⌝ }
+// Rule 6 of one kind line, for one board z: if z is below the panel, it is at or below one of the ways. It sees to the rule, or says
+// false: a cell would be left empty.
+fn rule6_at(
+    v: usize,
+    words: &[u16],
+    line: KindLine,
+    z: usize,
+    cells: &mut [u8],
+    marks: &mut [u32],
+) -> bool
+    requires { ⌜ Mutual v (now cells) × Marks v (now marks) × StandsIn v (now words) line × (z < v) ⌝ }
+    ensures { λ some. ⌜ Went (Idles v (rules2 v ++ rule6 v (lineAt (now (words .entry)) line) z)) v (Fed v (lineAt (now (words .entry)) line) z) (now (cells .entry)) (now (marks .entry)) (now (cells .exit)) (now (marks .exit)) some ⌝ }
 {
     let k = v * line.p + z;
     let x = cells[k];
     if relations::meet(x, relations::A) == 0 {
-        return 0;
+        return true;
     }
     let first = line.first;
     let end = line.end;
     let ways = &words[first..end];
     let i = reaching(v, ways, z, 0, cells);
     if i == ways.len() {
-        return tables::narrow(cells, k, relations::NOT_ABOVE);
+        return moves::strike(v, line.p, z, relations::NOT_ABOVE, cells, marks);
     }
     if x != relations::A || reaching(v, ways, z, i + 1, cells) < ways.len() {
-        return 0;
+        return true;
     }
-    let l = v * way(ways, i) + z;
-    tables::narrow(cells, l, relations::AT_OR_ABOVE)
+    moves::strike(v, way(ways, i), z, relations::AT_OR_ABOVE, cells, marks)
 }
 
-// Rule 6 of one kind line, for every board z.
-pub fn rule6(v: usize, words: &[u16], line: KindLine, cells: &mut [u8]) -> u32
-    requires { ⌜ Ready v (now cells) × StandsIn v (now words) line ⌝ }
-    ensures { λ n. ⌜ Pass (Quiet v) v (boardsOf v (rule6 v (lineAt (now (words .entry)) line))) (now (cells .entry)) 0 (now (cells .exit)) n ⌝ }
+// Rule 6 of each kind line in a set of numbers, towards the board z. It sees to each, or says false.
+fn rule6_each(
+    v: usize,
+    count: usize,
+    words: &[u16],
+    found: &[u32],
+    lines: u32,
+    z: usize,
+    cells: &mut [u8],
+    marks: &mut [u32],
+) -> bool
+    requires { ⌜ Mutual v (now cells) × Marks v (now marks) × Site v count (now words) (now found) × Among count lines × (z < v) ⌝ }
+    ensures { λ some. ⌜ Visit v count (now (words .entry)) (FedEach v (now (words .entry)) lines z) (now (cells .entry)) (now (marks .entry)) (now (cells .exit)) (now (marks .exit)) some ⌝ }
 {
-    let mut struck = 0;
-    for z in 0..v {
-        struck += rule6_at(v, words, line, z, cells);
+    let mut left = lines;
+    while left != 0 {
+        let n = bits::lowest(left);
+        left = bits::without(left, n);
+        let line = kind_at(words, by_board::line_start(found, n));
+        if !rule6_at(v, words, line, z, cells, marks) {
+            return false;
+        }
     }
-    struck
+    true
+}
+
+// Rule 6 of the kind lines that have the board a as a way, towards the board b. It sees to each, or says false.
+fn rule6_of_ways(
+    v: usize,
+    count: usize,
+    words: &[u16],
+    found: &[u32],
+    a: usize,
+    b: usize,
+    cells: &mut [u8],
+    marks: &mut [u32],
+) -> bool
+    requires { ⌜ Mutual v (now cells) × Marks v (now marks) × Site v count (now words) (now found) × (a < v) × (b < v) ⌝ }
+    ensures { λ some. ⌜ Visit v count (now (words .entry)) (FedWays v (now (words .entry)) (now (found .entry)) a b) (now (cells .entry)) (now (marks .entry)) (now (cells .exit)) (now (marks .exit)) some ⌝ }
+{
+    let mut left = by_board::places(found, a);
+    while left != 0 {
+        let i = bits::lowest(left);
+        left = bits::without(left, i);
+        let lines = by_board::with_way(found, a, i);
+        if !rule6_each(v, count, words, found, lines, b, cells, marks) {
+            return false;
+        }
+    }
+    true
+}
+
+// Rule 6 of the kind lines that read the cell of a and b: those with a as a way, if it no longer may be at or above b, and those with the panel a, if it
+// must be above b. It sees to each, or says false.
+pub fn rule6_for(
+    v: usize,
+    count: usize,
+    words: &[u16],
+    found: &[u32],
+    a: usize,
+    b: usize,
+    cells: &mut [u8],
+    marks: &mut [u32],
+) -> bool
+    requires { ⌜ Mutual v (now cells) × Marks v (now marks) × HasKinds v count (now words) × (count ≤ mostKinds) × Indexed count (now words) (now found) × (a < v) × (b < v) ⌝ }
+    ensures { λ some. ⌜ WithKinds v count (now (words .entry)) (λ ks. Went (Idles v (rules2 v ++ rules6 v ks)) v (FedFor v ks a b) (now (cells .entry)) (now (marks .entry)) (now (cells .exit)) (now (marks .exit)) some) ⌝ }
+{
+    let k = v * a + b;
+    let x = cells[k];
+    if x == relations::A {
+        let lines = by_board::with_panel(found, a);
+        return rule6_each(v, count, words, found, lines, b, cells, marks);
+    }
+    if reaches(x) {
+        return true;
+    }
+    rule6_of_ways(v, count, words, found, a, b, cells, marks)
+}
+
+// Rule 6 of kind line n for every board, if the line has no ways: nothing lies below it. It sees to the rule, or says false.
+fn rule6_bare(
+    v: usize,
+    count: usize,
+    words: &[u16],
+    found: &[u32],
+    n: usize,
+    cells: &mut [u8],
+    marks: &mut [u32],
+) -> bool
+    requires { ⌜ Mutual v (now cells) × Marks v (now marks) × Site v count (now words) (now found) × (n < count) ⌝ }
+    ensures { λ some. ⌜ Visit v count (now (words .entry)) (FedBare v (numbered (now (words .entry)) n)) (now (cells .entry)) (now (marks .entry)) (now (cells .exit)) (now (marks .exit)) some ⌝ }
+{
+    let line = kind_at(words, by_board::line_start(found, n));
+    if line.first < line.end {
+        return true;
+    }
+    for z in 0..v {
+        if !rule6_at(v, words, line, z, cells, marks) {
+            return false;
+        }
+    }
+    true
+}
+
+// Rule 6 of the kind lines that have no ways, for every board: nothing lies below them. It sees to each, or says false.
+pub fn rule6_without_ways(
+    v: usize,
+    count: usize,
+    words: &[u16],
+    found: &[u32],
+    cells: &mut [u8],
+    marks: &mut [u32],
+) -> bool
+    requires { ⌜ Mutual v (now cells) × Marks v (now marks) × HasKinds v count (now words) × (count ≤ mostKinds) × Indexed count (now words) (now found) ⌝ }
+    ensures { λ some. ⌜ WithKinds v count (now (words .entry)) (λ ks. Went (Idles v (rules2 v ++ rules6 v ks)) v (FedWithout v ks) (now (cells .entry)) (now (marks .entry)) (now (cells .exit)) (now (marks .exit)) some) ⌝ }
+{
+    for n in 0..count {
+        if !rule6_bare(v, count, words, found, n, cells, marks) {
+            return false;
+        }
+    }
+    true
 }

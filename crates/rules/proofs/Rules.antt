@@ -30,7 +30,7 @@ module _ (P : Rule → Type 0) where
   only-all true rs h t = h
   only-all false rs h t = absurd t
 
-  all-boards : (v : ℕ) (f : ℕ → List Rule) → ((p : ℕ) → p < v → All P (f p)) → All P (boardsOf v f)
+  pub all-boards : (v : ℕ) (f : ℕ → List Rule) → ((p : ℕ) → p < v → All P (f p)) → All P (boardsOf v f)
   all-boards v f h = all-over P f (upTo v) (λ p m. h p (upTo-out v p m))
 
   pub boards-all : (v : ℕ) (f : ℕ → List Rule) → All P (boardsOf v f) → (p : ℕ) → p < v → All P (f p)
@@ -190,7 +190,7 @@ unless-in true x m f = lies-full x
 unless-in false x m f = f tt
 
 -- where the test fails the set is left
-unless-not : (b : Bool) (m : ℕ) → (T b → ⊥) → unless b m ≡ m
+pub unless-not : (b : Bool) (m : ℕ) → (T b → ⊥) → unless b m ≡ m
 unless-not true m f = absurd (f tt)
 unless-not false m f = refl
 
@@ -198,12 +198,12 @@ pub unless-out : (b : Bool) (x m : ℕ) → x liesWithin unless b m → T (not b
 unless-out b x m s t = subst (λ (y : ℕ). x liesWithin y) (unless-not b m (T-not b t)) s
 
 -- to lack a relation is to lie within the others
-lacks-lies : (x r : ℕ) → Lacks x r → x liesWithin complement (2 ^ r)
+pub lacks-lies : (x r : ℕ) → Lacks x r → x liesWithin complement (2 ^ r)
 lacks-lies x r l =
     record
     { member = λ n h t. complement-in (2 ^ r) n h (λ u. T-not (has x r) l (subst (λ (m : ℕ). T (has x m)) (single-has r n u) t)) }
 
-lies-lacks : (x r : ℕ) → r < relations → x liesWithin complement (2 ^ r) → Lacks x r
+pub lies-lacks : (x r : ℕ) → r < relations → x liesWithin complement (2 ^ r) → Lacks x r
 lies-lacks x r h s = not-T (has x r) (λ t. complement-out (2 ^ r) r h (s .member r h t) (has-single r))
 
 pub misses-not : (x : ℕ) → Misses x → T (reaches x) → ⊥

@@ -1,8 +1,24 @@
--- Any two outcomes that the contract of `rule7` permits answer one number where they leave one table. Assumes nothing.
-use Rattle.contracts.specs.Contracts.{OneResultFor}
-use Rattle.passes.proofs.Passes.{kept-determined}
-use Rattle.same_panels.proofs.rule7.Kinds as rule7-kinds
-use Rattle.same_panels.proofs.rule7.Reads as rule7
+-- What the contracts of `rule7_for` and `rule7_at_first` determine: where two tables are left in which rules 2 and 7 strike nothing, they are one, and so is
+-- the answer. Assumes nothing.
+use Rattle.kinds.specs.Sections.{WithKinds}
+use Rattle.moves.specs.Moves.{MatchedFor}
+use Rattle.moves.proofs.Ending.{visits-ended, OneEnd}
+use Rattle.same_panels.specs.Visits.{Keeping, AtFirst}
+use Rattle.same_panels.proofs.rule7_for.Kinds as for-kinds
+use Rattle.same_panels.proofs.rule7_for.Reads as for
+use Rattle.same_panels.proofs.rule7_at_first.Kinds as at-first-kinds
+use Rattle.same_panels.proofs.rule7_at_first.Reads as at-first
 
-pub rule7-counted : OneResultFor 2 rule7-kinds.ps rule7-kinds.r rule7.Asked rule7.Learnt (λ κs e. e .1 .1 .1 .1 .0 .now)
-rule7-counted κs a asked x y d e p q = λ same. kept-determined same (p .kept) (q .kept)
+pub rule7-for-ended : OneEnd 4 for-kinds.ps for-kinds.r for.Asked for.Learnt
+    (λ κs a w. WithKinds (a .0) (a .1 .0) (a .1 .1 .0 .now) (λ ks. Keeping (a .0) ks w)) (λ κs x. x) (λ κs e. e .1 .1 .1 .1 .1 .1 .0 .now)
+rule7-for-ended κs a asked x y d e p q f g =
+    visits-ended (Keeping (a .0)) (λ ks. MatchedFor (a .0) ks (a .1 .1 .1 .1 .0) (a .1 .1 .1 .1 .1 .0))
+    (a .0) (a .1 .1 .1 .1 .1 .1 .0 .now) (a .1 .1 .1 .1 .1 .1 .1 .0 .now) (d .1 .1 .1 .1 .1 .1 .0 .now) (d .1 .1 .1 .1 .1 .1 .1 .0 .now)
+    (e .1 .1 .1 .1 .1 .1 .0 .now) (e .1 .1 .1 .1 .1 .1 .1 .0 .now) x y (asked .2 .0) p q f g
+
+pub rule7-at-first-ended : OneEnd 4 at-first-kinds.ps at-first-kinds.r at-first.Asked at-first.Learnt
+    (λ κs a w. WithKinds (a .0) (a .1 .0) (a .1 .1 .0 .now) (λ ks. Keeping (a .0) ks w)) (λ κs x. x) (λ κs e. e .1 .1 .1 .1 .0 .now)
+rule7-at-first-ended κs a asked x y d e p q f g =
+    visits-ended (Keeping (a .0)) (λ ks. AtFirst (a .0) ks)
+    (a .0) (a .1 .1 .1 .1 .0 .now) (a .1 .1 .1 .1 .1 .0 .now) (d .1 .1 .1 .1 .0 .now) (d .1 .1 .1 .1 .1 .0 .now)
+    (e .1 .1 .1 .1 .0 .now) (e .1 .1 .1 .1 .1 .0 .now) x y (asked .2 .0) p q f g

@@ -1,23 +1,28 @@
--- Rule 7 for two kind lines, by the tests that are made of them and the cells that are narrowed. Assumes nothing.
-use mathlib.Core.Path.{_≡_, refl, sym, ap, _∙_, subst}
-use mathlib.Core.Bool.{Bool, true, false}
-use mathlib.Core.List.{List, [], _∷_, flatMap}
+-- Rule 7 for two kind lines, by the tests that are made of them and the cells that are struck. Assumes nothing.
+use mathlib.Core.Path.{_≡_, sym, ap, _∙_, subst}
+use mathlib.Core.Bool.{Bool, true, false, _&&_}
+use mathlib.Core.List.{List, _++_, flatMap}
 use Prim.Native.Nat.{ℕ, _+_, _*_, _≤_, _<_}
+use borrow.Author.Count.{below-more}
 use lib.Dec.{T, T-not}
 use lib.ListN.{length, getD}
-use Rattle.rules.specs.Relations.{same, E, has, Lacks, meet, complement, _liesWithin_}
+use Rattle.rules.specs.Relations.{same, E, has, Lacks, meet, complement, _liesWithin_, converse}
 use Rattle.rules.specs.Descriptions.{mostBoards, mostCells, KindLine}
-use Rattle.rules.specs.Tables.{cell, upTo}
+use Rattle.rules.specs.Tables.{cell, Inside, upTo}
 use Rattle.rules.specs.Arrangements.{way, width, Alike}
-use Rattle.rules.specs.Closing.{agree, bound7, bound7′, Rule, Idle, lies, only, waysOf, rule7}
-use Rattle.rules.proofs.Tests.{T-true, T-false, true-T, each-at, each-all}
+use Rattle.rules.specs.Closing.{agree, bound7, bound7′, Rule, Idle, lies, only, waysOf, rules2, rule7}
+use Rattle.rules.proofs.Tests.{T-true, T-false, true-T, and-T, each-at, each-all}
 use Rattle.rules.proofs.Digits.{has-single}
-use Rattle.rules.proofs.Sets.{lies-refl, unshared-lacks, shared-has}
-use Rattle.rules.proofs.Members.{All, all-one, one-all, all-append, append-left, append-right}
-use Rattle.rules.proofs.Rules.{same-small, all-only, only-all, all-ways, ways-all, alike-agree, bound7-apart, lacks7, said7, says7″, said7″, bound7-grows}
-use Rattle.passes.specs.Passes.{Filled, Narrowed, Ready, Pass, Quiet}
-use Rattle.passes.proofs.Passes.{filled-one, pass-still, pass-next, pass-struck, pass-strike, place-few, ready-place, ready-kept}
-use Rattle.same_panels.specs.Pairs.{Facing, pairPlace, paired, joined}
+use Rattle.rules.proofs.Sets.{lies-trans, lies-one, unshared-lacks, shared-has}
+use Rattle.rules.proofs.Members.{all-append, all-one, one-all, append-left, append-right}
+use Rattle.rules.proofs.Rules.{same-small, unless-in, lacks-lies, lies-lacks, only-all, boards-all, all-ways, ways-all, alike-agree, bound7-apart, says7″, said7″, bound7-grows}
+use Rattle.passes.specs.Passes.{Ready, Idles}
+use Rattle.passes.proofs.Passes.{place-few, ready-place}
+use Rattle.moves.specs.Moves.{Marks, Mutual, Struck, Moved, Lost, Went, Matched}
+use Rattle.moves.proofs.Striking.{cell-some}
+use Rattle.moves.proofs.Moving.{moved-none, moved-then, lost-then, strike-moved, strike-lost, strike-within, moved-as, lost-as, moved-inside, lost-inside}
+use Rattle.moves.proofs.Passing.{turned}
+use Rattle.same_panels.specs.Pairs.{Facing, pairPlace, paired, joined, Joined}
 
 -- ---- ways in the same place
 
@@ -29,14 +34,14 @@ abbrev pub Pairs : ℕ → List ℕ → List ℕ → List ℕ → ℕ → Type 0
 Pairs v t ws us i = T (pairHas v t ws us i)
 
 -- the rule that it lies within {E}
-abbrev pub pair : List ℕ → List ℕ → ℕ → List Rule
+abbrev pair : List ℕ → List ℕ → ℕ → List Rule
 pair ws us i = lies (getD ws i 0) (getD us i 0) (λ t. E)
 
 pub paired-all : (v : ℕ) (t ws us : List ℕ) → ((i : ℕ) → i < length ws → Pairs v t ws us i) → true ≡ paired v t ws us
 paired-all v t ws us f = sym (T-true (each-all (length ws) (pairHas v t ws us) f))
 
 module _ {v : ℕ} {ws us : List ℕ} (facing : Facing v ws us) {i : ℕ} (within : i < length ws) where
-  other-within : i < length us
+  pub other-within : i < length us
   other-within = subst (λ (n : ℕ). i < n) (facing .same) within
 
   pub pair-few : v ≤ mostBoards → pairPlace v ws us i < mostCells
@@ -62,105 +67,163 @@ module _ {v : ℕ} {ws us : List ℕ} (facing : Facing v ws us) {i : ℕ} (withi
       pub pairs : (z ≡ 0 → ⊥) → Pairs v t ws us i
       pairs n = shared-has same (getD t (pairPlace v ws us i) 0) (λ e. n (met ∙ e))
 
-    pub joined-more : {t s w : List ℕ} {a b n : ℕ} → Ready v t → Pass (Quiet v) v (flatMap (pair ws us) (upTo i)) t a s b → Narrowed s k E w n
-        → Pass (Quiet v) v (flatMap (pair ws us) (upTo (i + 1))) t a w (b + n)
-    joined-more {s = s} {w} {n = n} ready before m =
-        pass-next (Quiet v) (pair ws us) i (ready .table) before
-        (pass-strike (Quiet v) (record { row = getD ws i 0; column = getD us i 0; bound = λ t. E }) (λ u t i. lies-refl E) (before .kept .table)
-        (subst (λ (j : ℕ). j < length s) place (pair-inside (ready-kept ready (before .kept)))) refl (subst (λ (j : ℕ). Narrowed s j E w n) place m)
-        (λ unchanged idle filled. idle))
+  -- a table in which these rules strike nothing survives a strike of all but same
+  kept : (x : List ℕ) → Idles v (joined v ws us) x
+      → (cell v x (getD ws i 0) (getD us i 0) liesWithin E) × (cell v x (getD us i 0) (getD ws i 0) liesWithin converse (cell v x (getD ws i 0) (getD us i 0)))
+  kept x d = (
+    one-all (Idle v x) (boards-all (Idle v x) (length ws) (pair ws us) (append-right (Idle v x) (rules2 v) (flatMap (pair ws us) (upTo (length ws))) d) i within),
+    turned v x (append-left (Idle v x) (rules2 v) (flatMap (pair ws us) (upTo (length ws))) d) (getD ws i 0) (getD us i 0) (facing .ways i within) (facing .others i other-within),
+  )
 
--- ---- two kind lines
+  -- a and b are the two ways
+  module _ {a b : ℕ} (first : a ≡ getD ws i 0) (second : b ≡ getD us i 0) where
+    pub pair-boards : (a < v) × (b < v)
+    pair-boards =
+        (subst (λ (n : ℕ). n < v) (sym first) (facing .ways i within), subst (λ (n : ℕ). n < v) (sym second) (facing .others i other-within))
+
+    -- after the pairs before it
+    module _ {t m u k w n : List ℕ} {some : Bool} (before : Moved (Idles v (joined v ws us)) v t m u k) (s : Struck v a b E u k w n some) where
+      struck : {z : Bool} → some ≡ z → Struck v (getD ws i 0) (getD us i 0) E u k w n z
+      struck {z} e =
+          subst (λ (p : ℕ). Struck v p (getD us i 0) E u k w n z) first
+          (subst (λ (q : ℕ). Struck v a q E u k w n z) second (subst (λ (y : Bool). Struck v a b E u k w n y) e s))
+
+      pub joined-more : ((j : ℕ) → j < i → cell v u (getD ws j 0) (getD us j 0) liesWithin E) → some ≡ true
+          → Moved (Idles v (joined v ws us)) v t m w n × ((j : ℕ) → j < i + 1 → cell v w (getD ws j 0) (getD us j 0) liesWithin E)
+      joined-more f e =
+          let moved = strike-moved (before .fit) (before .list) (facing .ways i within) (facing .others i other-within) kept (struck e) in (
+            moved-then before moved,
+            below-more _ _ (λ j l. lies-trans (moved .inside .each (pairPlace v ws us j)) (f j l))
+                (strike-within (before .fit) (before .list) (facing .ways i within) (facing .others i other-within) kept (struck e)),
+          )
+
+      pub joined-lost : some ≡ false → Lost (Idles v (joined v ws us)) v t
+      joined-lost e =
+          lost-then before (strike-lost (before .fit) (before .list) (facing .ways i within) (facing .others i other-within) kept (struck e))
+
+-- ---- what is then seen to
 
 module _ (v : ℕ) (k l : KindLine) where
-  -- the rule for the panels, and for their ways in place i
-  abbrev panels : Rule
-  panels = record { row = k .p; column = l .p; bound = λ t. bound7 v t k l }
-
-  abbrev ways : ℕ → Rule
-  ways i = record { row = way k i; column = way l i; bound = λ t. bound7′ v t k l }
-
-  module _ (P : Rule → Type 0) where
-    all-rule7 : P panels → ((i : ℕ) → i < width k → P (ways i)) → All P (rule7 v k l)
-    all-rule7 h f =
-        all-append P (panels ∷ []) (all-one P h)
-        (all-only P (agree k l) (waysOf k (λ i. ways i ∷ [])) (λ a. all-ways P k (λ i. ways i ∷ []) (λ i m. all-one P (f i m))))
-
-    rule7-panels : All P (rule7 v k l) → P panels
-    rule7-panels h = one-all P (append-left P (panels ∷ []) (only (agree k l) (waysOf k (λ i. ways i ∷ []))) h)
-
-    rule7-ways : All P (rule7 v k l) → T (agree k l) → (i : ℕ) → i < width k → P (ways i)
-    rule7-ways h a i m =
-        one-all P
-        (ways-all P k (λ i. ways i ∷ [])
-        (only-all P (agree k l) (waysOf k (λ i. ways i ∷ [])) (append-right P (panels ∷ []) (only (agree k l) (waysOf k (λ i. ways i ∷ []))) h) a) i m)
-
-  module _ (t : List ℕ) (ready : Ready v t) (p-below : k .p < v) (q-below : l .p < v) where
+  module _ {t : List ℕ} (u : Mutual v t) (hp : k .p < v) (hq : l .p < v) where
     -- the cell of the two panels
     abbrev between : ℕ
     between = cell v t (k .p) (l .p)
 
-    here : v * k .p + l .p < length t
-    here = ready-place ready p-below q-below
+    -- if it lies within {E} it is E
+    pub only-same : between liesWithin E → between ≡ E
+    only-same s = lies-one same (u .ready .table .small (v * k .p + l .p)) same-small s (cell-some u hp hq)
 
-    -- if it is not empty and lies within {E} it is E
-    only-same : Filled t → between liesWithin E → between ≡ E
-    only-same f s = filled-one same t (v * k .p + l .p) same-small (ready .table) f here s
+    -- the panels are not the same
+    matched-apart : {m : List ℕ} → Lacks between same → Matched v k l m t
+    matched-apart n =
+        let other : between liesWithin complement E = lacks-lies between same n in
+        record {
+          codes = λ o. unless-in (agree k l) between (complement E) (λ d. other);
+          panels = λ i h o. unless-in (agree k l && has (cell v t (way k i) (way l i)) same) between (complement E) (λ d. other);
+          ways =
+              λ a i h o.
+              said7″ v t k l i (λ s. absurd (T-not (has between same) n (subst (λ (y : ℕ). T (has y same)) (sym (only-same s)) (has-single same))));
+        }
 
-    -- they are not the same: nothing is to be struck
-    pub rule7-apart : meet between E ≡ 0 → Pass (Quiet v) v (rule7 v k l) t 0 t 0
-    rule7-apart e =
-        let n : Lacks between same = unshared-lacks same between same-small e in
-        pass-still (Quiet v) (ready .table)
-        (all-rule7 (Quiet v t) (λ f. said7 v t k l (λ d. n) (λ a i m b. n))
-        (λ i m f.
-        said7″ v t k l i (λ s. absurd (T-not (has between same) n (subst (λ (y : ℕ). T (has y same)) (sym (only-same f s)) (has-single same))))))
+    -- code and number of ways agree, and each pair of ways may be the same, and must be if the panels must
+    matched-alike : {m : List ℕ} → Alike k l → ((i : ℕ) → i < width k → T (has (cell v t (way k i) (way l i)) same))
+        → ((i : ℕ) → i < width k → between ≡ E → cell v t (way k i) (way l i) liesWithin E) → Matched v k l m t
+    matched-alike a f g =
+        record {
+          codes = λ o. unless-in (agree k l) between (complement E) (λ d. absurd (T-not (agree k l) d (alike-agree k l a)));
+          panels =
+              λ i h o.
+              unless-in (agree k l && has (cell v t (way k i) (way l i)) same) between (complement E)
+              (λ d.
+              absurd
+              (T-not (agree k l && has (cell v t (way k i) (way l i)) same) d
+              (and-T (agree k l) (has (cell v t (way k i) (way l i)) same) (alike-agree k l a) (f i h))));
+          ways = λ b i h o. said7″ v t k l i (λ s. g i h (only-same s));
+        }
 
+    -- each pair of ways is the same
+    matched-joined : {m : List ℕ} → Alike k l → Facing v (k .ways) (l .ways) → Joined v (k .ways) (l .ways) t → Matched v k l m t
+    matched-joined a facing f =
+        matched-alike a
+        (λ i h.
+        subst (λ (y : ℕ). T (has y same))
+        (sym
+        (lies-one same (u .ready .table .small (v * way k i + way l i)) same-small (f i h) (cell-some u (facing .ways i h) (facing .others i (other-within facing h)))))
+        (has-single same))
+        (λ i h e. f i h)
+
+  -- ---- what is kept
+
+  -- rule 2, and rule 7 of the two
+  abbrev pub both : List Rule
+  both = rules2 v ++ rule7 v k l
+
+  module _ {x : List ℕ} (d : Idles v both x) where
+    idle7 : Idles v (rule7 v k l) x
+    idle7 = append-right (Idle v x) (rules2 v) (rule7 v k l) d
+
+    panels-idle : cell v x (k .p) (l .p) liesWithin bound7 v x k l
+    panels-idle =
+        one-all (Idle v x)
+        (append-left (Idle v x) (lies (k .p) (l .p) (λ t. bound7 v t k l))
+        (only (agree k l) (waysOf k (λ i. lies (way k i) (way l i) (λ t. bound7′ v t k l)))) idle7)
+
+    ways-idle : T (agree k l) → (i : ℕ) → i < width k → cell v x (way k i) (way l i) liesWithin bound7′ v x k l
+    ways-idle a i h =
+        one-all (Idle v x)
+        (ways-all (Idle v x) k (λ i. lies (way k i) (way l i) (λ t. bound7′ v t k l))
+        (only-all (Idle v x) (agree k l) (waysOf k (λ i. lies (way k i) (way l i) (λ t. bound7′ v t k l)))
+        (append-right (Idle v x) (lies (k .p) (l .p) (λ t. bound7 v t k l))
+        (only (agree k l) (waysOf k (λ i. lies (way k i) (way l i) (λ t. bound7′ v t k l)))) idle7) a) i h)
+
+  -- ---- the ends of rule 7
+
+  module _ {t m : List ℕ} (u : Mutual v t) (marks : Marks v m) (hp : k .p < v) (hq : l .p < v) where
+    -- the panels are not the same: nothing is to be struck
+    pub rule7-apart : meet (cell v t (k .p) (l .p)) E ≡ 0 → Moved (Idles v both) v t m t m × Matched v k l m t
+    rule7-apart e = (moved-none u marks, matched-apart u hp hq (unshared-lacks same (cell v t (k .p) (l .p)) same-small e))
+
+    -- all of that agrees, and the panels may be the same or not: nothing is to be struck
+    pub rule7-open : Alike k l → {b : Bool} → b ≡ paired v t (k .ways) (l .ways) → b ≡ true → (cell v t (k .p) (l .p) ≡ E → ⊥)
+        → Moved (Idles v both) v t m t m × Matched v k l m t
+    rule7-open a each passed n =
+        (moved-none u marks, matched-alike u hp hq a (each-at (width k) (pairHas v t (k .ways) (l .ways)) (true-T (sym each ∙ passed))) (λ i h e. absurd (n e)))
+
+  module _ (t m w n : List ℕ) (u : Mutual v t) (marks : Marks v m) (hp : k .p < v) (hq : l .p < v) where
     -- code, number of ways or a pair of ways differs: E is struck
-    pub rule7-struck : (meet between E ≡ 0 → ⊥) → (Alike k l → paired v t (k .ways) (l .ways) ≡ true → ⊥) → {w : List ℕ} {n : ℕ}
-        → Narrowed t (v * k .p + l .p) (complement E) w n → Pass (Quiet v) v (rule7 v k l) t 0 w n
-    rule7-struck may d m =
-        pass-struck (Quiet v) (rule7 v k l) panels (λ x i. rule7-panels (Idle v x) i) (λ u w i. bound7-grows v i k l) (ready .table) here
-        (sym (bound7-apart v t k l (λ a e. d a (T-true e)))) m
-        (λ unchanged s. absurd (T-not (has between same) (lacks7 v t k l s (λ a e. d a (T-true e))) (shared-has same between may)))
+    pub rule7-struck : (Alike k l → paired v t (k .ways) (l .ways) ≡ true → ⊥) → (some : Bool) → Struck v (k .p) (l .p) (complement E) t m w n some
+        → Went (Idles v both) v (Matched v k l) t m w n some
+    rule7-struck d some s = go some s
+      where
+        kept-apart : (x : List ℕ) → Inside x t × Idles v both x
+            → (cell v x (k .p) (l .p) liesWithin complement E) × (cell v x (l .p) (k .p) liesWithin converse (cell v x (k .p) (l .p)))
+        kept-apart x (i, idle) = (
+          subst (λ (y : ℕ). cell v x (k .p) (l .p) liesWithin y) (bound7-apart v t k l (λ a e. d a (T-true e))) (lies-trans (panels-idle idle) (bound7-grows v i k l)),
+          turned v x (append-left (Idle v x) (rules2 v) (rule7 v k l) idle) (k .p) (l .p) hp hq,
+        )
 
-    -- all of that agrees
-    module _ (alike : Alike k l) {b : Bool} (each : b ≡ paired v t (k .ways) (l .ways)) (passed : b ≡ true) where
-      kept-same : between liesWithin bound7 v t k l
-      kept-same =
-          said7 v t k l (λ d. absurd (d alike))
-          (λ a i m n.
-          absurd
-          (T-not (pairHas v t (k .ways) (l .ways) i) n
-          (each-at (width k) (pairHas v t (k .ways) (l .ways)) (true-T (sym each ∙ passed)) i m)))
+        go : (some : Bool) → Struck v (k .p) (l .p) (complement E) t m w n some → Went (Idles v both) v (Matched v k l) t m w n some
+        go true s =
+            let moved = strike-moved {C = λ x. Inside x t × Idles v both x} u marks hp hq kept-apart s in
+            (moved-inside moved, matched-apart (moved .fit) hp hq (lies-lacks _ same same-small (strike-within {C = λ x. Inside x t × Idles v both x} u marks hp hq kept-apart s)))
+        go false s = lost-inside (strike-lost {C = λ x. Inside x t × Idles v both x} u marks hp hq kept-apart s)
 
-      -- they may be the same or not: nothing is to be struck
-      pub rule7-open : (between ≡ E → ⊥) → Pass (Quiet v) v (rule7 v k l) t 0 t 0
-      rule7-open n =
-          pass-still (Quiet v) (ready .table)
-          (all-rule7 (Quiet v t) (λ f. kept-same) (λ i m f. said7″ v t k l i (λ s. absurd (n (only-same f s)))))
+    -- the panels are the same, and so are their ways
+    pub rule7-joined : Alike k l → Facing v (k .ways) (l .ways) → cell v t (k .p) (l .p) ≡ E → (some : Bool)
+        → Went (Idles v (joined v (k .ways) (l .ways))) v (λ n w. Joined v (k .ways) (l .ways) w) t m w n some
+        → Went (Idles v both) v (Matched v k l) t m w n some
+    rule7-joined a facing e some s = go some s
+      where
+        kept-joined : (x : List ℕ) → Inside x t × Idles v both x → Idles v (joined v (k .ways) (l .ways)) x
+        kept-joined x (i, idle) =
+            all-append (Idle v x) (rules2 v) (append-left (Idle v x) (rules2 v) (rule7 v k l) idle)
+            (all-ways (Idle v x) k (pair (k .ways) (l .ways))
+            (λ j h.
+            all-one (Idle v x)
+            (says7″ v x k l j (ways-idle idle (alike-agree k l a) j h)
+            (subst (λ (b : ℕ). cell v x (k .p) (l .p) liesWithin b) e (i .each (v * k .p + l .p))))))
 
-      -- they are the same, and so are their ways
-      pub rule7-joined : between ≡ E → {w : List ℕ} {n : ℕ} → Pass (Quiet v) v (joined (k .ways) (l .ways)) t 0 w n
-          → Pass (Quiet v) v (rule7 v k l) t 0 w n
-      rule7-joined e s =
-          record {
-            kept =
-                record {
-                  table = s .kept .table;
-                  inside = s .kept .inside;
-                  keeps =
-                      λ y i d.
-                      s .kept .keeps y i
-                      (all-ways (Idle v y) k (pair (k .ways) (l .ways))
-                      (λ j m.
-                      all-one (Idle v y)
-                      (says7″ v y k l j (rule7-ways (Idle v y) d (alike-agree k l alike) j m)
-                      (subst (λ (b : ℕ). cell v y (k .p) (l .p) liesWithin b) e (i .each (v * k .p + l .p))))));
-                  counted = s .kept .counted;
-                };
-            quiet =
-                λ z.
-                all-rule7 (Quiet v t) (λ f. kept-same)
-                (λ i m f. said7″ v t k l i (λ b. one-all (Quiet v t) (ways-all (Quiet v t) k (pair (k .ways) (l .ways)) (s .quiet z) i m) f));
-          }
+        go : (some : Bool) → Went (Idles v (joined v (k .ways) (l .ways))) v (λ n w. Joined v (k .ways) (l .ways) w) t m w n some
+            → Went (Idles v both) v (Matched v k l) t m w n some
+        go true (moved, f) = (moved-inside (moved-as kept-joined moved), matched-joined (moved .fit) hp hq a facing f)
+        go false lost = lost-inside (lost-as kept-joined lost)

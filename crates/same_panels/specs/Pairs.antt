@@ -1,12 +1,12 @@
 -- The ways of two panels, in the same positions. Assumes nothing.
 use mathlib.Core.Path.{_≡_}
 use mathlib.Core.Bool.{Bool}
-use mathlib.Core.List.{List, flatMap}
-use Prim.Native.Nat.{ℕ, _+_, _*_}
+use mathlib.Core.List.{List, _++_, flatMap}
+use Prim.Native.Nat.{ℕ, _+_, _*_, _<_}
 use lib.ListN.{length, getD}
-use Rattle.rules.specs.Relations.{eachBelow, same, E, has}
+use Rattle.rules.specs.Relations.{eachBelow, same, E, has, _liesWithin_}
 use Rattle.rules.specs.Tables.{cell, upTo}
-use Rattle.rules.specs.Closing.{Rule, lies}
+use Rattle.rules.specs.Closing.{Rule, lies, rules2}
 use Rattle.kinds.specs.Lines.{Below}
 
 -- as many ways on both sides, each a board below v
@@ -23,6 +23,10 @@ pairPlace v ws us i = v * getD ws i 0 + getD us i 0
 abbrev pub paired : ℕ → List ℕ → List ℕ → List ℕ → Bool
 paired v t ws us = eachBelow (length ws) (λ i. has (cell v t (getD ws i 0) (getD us i 0)) same)
 
--- the rules that each pair of ways in the same position lie within {E}
-abbrev pub joined : List ℕ → List ℕ → List Rule
-joined ws us = flatMap (λ i. lies (getD ws i 0) (getD us i 0) (λ t. E)) (upTo (length ws))
+-- rule 2, and the rules that each pair of ways in the same position lie within {E}
+abbrev pub joined : ℕ → List ℕ → List ℕ → List Rule
+joined v ws us = rules2 v ++ flatMap (λ i. lies (getD ws i 0) (getD us i 0) (λ t. E)) (upTo (length ws))
+
+-- they do
+abbrev pub Joined : ℕ → List ℕ → List ℕ → List ℕ → Type 0
+Joined v ws us t = (i : ℕ) → i < length ws → cell v t (getD ws i 0) (getD us i 0) liesWithin E

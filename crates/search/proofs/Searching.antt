@@ -29,7 +29,8 @@ use Rattle.choosing.specs.declared.Ended.{Ended}
 use Rattle.choosing.specs.declared.Ended.the-variants.{Arranged, Nowhere, RanOut}
 use Rattle.choosing.specs.Choices.{Bytes}
 use Rattle.choosing.specs.Standings.{Whole}
-use Rattle.choosing.specs.Tries.{Under, ends}
+use Rattle.closing.specs.Closes.{Under}
+use Rattle.choosing.specs.Tries.{ends}
 use Rattle.search.specs.Rooms.{concluded}
 use Rattle.choosing.proofs.Walking.{pairs-most}
 use Rattle.choosing.proofs.Resuming.{proceed-none, proceed-on}

@@ -13,8 +13,10 @@ use answers::refuse;
 use answers::rooms::pairs_room;
 use answers::rooms::table_room;
 use answers::succeed;
+use by_board::index_room;
 use choosing::Ended;
 use headers::Header;
+use moves::marks_room;
 use sweeps::Swept;
 
 // Turns the end of a search into its answer. On success the arrangement replaces the lent table.
@@ -32,7 +34,7 @@ fn conclude(ended: Ended, budget: u32, cells: &[u8], table: &mut [u8]) -> Answer
     }
 }
 
-// Searches in room for the first closed table, for the choices and for the cells of the try at hand.
+// Searches in room for the first closed table, for the choices, for the cells of the try at hand, for the kind lines by board and for the list of pairs.
 fn search_in_room(
     h: Header,
     words: &[u16],
@@ -42,16 +44,19 @@ fn search_in_room(
     first: &mut [u8],
     choices: &mut [u8],
     cells: &mut [u8],
+    found: &mut [u32],
+    marks: &mut [u32],
 ) -> Answer
-    requires { ⌜ Roomy h (now words) (now order) (now table) (now first) (now choices) (now cells) ⌝ }
+    requires { ⌜ Roomy h (now words) (now order) (now table) (now first) (now choices) (now cells) (now found) (now marks) ⌝ }
     ensures { λ a. ⌜ outcome a (now (table .exit)) ≡ searching (now (order .entry)) (now (words .entry)) (now (table .entry)) budget ⌝ }
 {
     tables::copy(table, first);
     let Swept::Struck(_) = closing::close_cells(h, words, first) else {
         return refuse(NOWHERE, 0);
     };
+    closing::tell_kinds(h, words, found);
     tables::copy(first, cells);
-    let ended = choosing::choose(h, words, order, budget, first, choices, cells);
+    let ended = choosing::choose(h, words, found, order, budget, first, choices, cells, marks);
     conclude(ended, budget, cells, table)
 }
 
@@ -66,6 +71,8 @@ pub fn search_table(h: Header, words: &[u16], order: &[u8], budget: u32, table: 
     let mut first = table_room();
     let mut choices = pairs_room();
     let mut cells = table_room();
+    let mut found = index_room();
+    let mut marks = marks_room();
     search_in_room(
         h,
         words,
@@ -75,5 +82,7 @@ pub fn search_table(h: Header, words: &[u16], order: &[u8], budget: u32, table: 
         &mut first[..n],
         &mut choices,
         &mut cells[..n],
+        &mut found,
+        &mut marks,
     )
 }

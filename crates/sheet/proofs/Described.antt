@@ -4,7 +4,7 @@ use mathlib.Core.List.{List}
 use Prim.Native.Nat.{ℕ, _-_, _^_, _≤_, _<_}
 use native.Mathlib.Omega.{arith}
 use lib.ListN.{length, getD, take, drop}
-use Rattle.rules.specs.Descriptions.{mostBoards, Sheet, Reading, good, refused, relationLine, kindLine, section, relationLines, kindLines, read, OneArity}
+use Rattle.rules.specs.Descriptions.{mostBoards, mostKinds, KindLine, Sheet, Reading, good, refused, relationLine, kindLine, section, relationLines, kindLines, read, OneArity}
 use Rattle.rules.proofs.Tests.{clash}
 use Rattle.rules.proofs.Parts.{tail}
 use Rattle.rules.proofs.Readings.{later-out}
@@ -23,6 +23,7 @@ pub record Described (ws : List ℕ) (h : Header) (s : Sheet) : Type 0 where
   pub means : read ws ≡ good s
   pub boards : h .boards ≡ s .boards
   pub few : h .boards ≤ mostBoards
+  pub few-kinds : h .kinds .count ≤ mostKinds
   pub after : 6 ≤ h .kinds .at
   pub within : h .kinds .at ≤ length ws
   pub lines : section (relationLine (h .boards)) (h .lines .count) (take (h .kinds .at - 6) (drop 6 ws)) ≡ good (s .lines)
@@ -37,6 +38,7 @@ module _ (ws : List ℕ) where
         means = e;
         boards = r .boards;
         few = r .numbers .boards;
+        few-kinds = r .numbers .kinds;
         after = r .places .after;
         within = subst (λ (k : ℕ). getD ws 4 0 ≤ k) (r .places .total) (r .places .before);
         lines = later-out 6 (section _ _ _) (s .lines) (r .lines);
@@ -67,13 +69,15 @@ undescribed-place ws q p small = omega (arith, place-small ws (q .number) (q .pl
 pub described-one : {ws : List ℕ} {h : Header} {s u : Sheet} → Described ws h s → read ws ≡ good u → s ≡ u
 described-one d e = let m = d .means in cc
 
+-- and one list of kind lines
+pub described-kinds : {ws : List ℕ} {h : Header} {s : Sheet} {ks : List KindLine} → Described ws h s
+    → section (kindLine (h .boards)) (h .kinds .count) (take (length ws - h .kinds .at) (drop (h .kinds .at) ws)) ≡ good ks → s .kinds ≡ ks
+described-kinds d e = let k = d .kinds in cc
+
 -- the kind lines of one code have as many ways
 pub described-agreed : {ws : List ℕ} {h : Header} {s : Sheet} → Described ws h s
     → HasAgreed (h .boards) (h .kinds .count) (take (length ws - h .kinds .at) (drop (h .kinds .at) ws))
 described-agreed {ws} {h} {s} d = (
   (s .kinds, d .kinds),
-  λ ks e.
-      let same : good (s .kinds) ≡ good ks = sym (d .kinds) ∙ e in
-      let one : s .kinds ≡ ks = cc in
-      subst OneArity one (read-wellFormed ws s (d .means) .arity),
+  λ ks e. subst OneArity (described-kinds d e) (read-wellFormed ws s (d .means) .arity),
 )

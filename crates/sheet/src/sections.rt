@@ -7,7 +7,7 @@ use answers::refusals::Refusal;
 use answers::refusals::UNFIT;
 use answers::refusals::later;
 use kind_lines::KindFound;
-use lines::RelationFound;
+use lines::LineTold;
 
 // A section that its lines fill, or the first refusal in it, with its place in the section.
 pub(crate) enum SectionFound {
@@ -36,9 +36,9 @@ pub(crate) fn relation_section(v: usize, count: usize, words: &[u16]) -> Section
     let mut at = 0;
     let mut left = count;
     while 0 < left {
-        let rest = match lines::relation_line(v, &words[at..]) {
-            RelationFound::Line(_, rest) => rest,
-            RelationFound::Refused(r) => return SectionFound::Refused(later(at, r)),
+        let rest = match lines::relation_told(v, &words[at..]) {
+            LineTold::Rest(rest) => rest,
+            LineTold::Refused(r) => return SectionFound::Refused(later(at, r)),
         };
         at = words.len() - rest;
         left -= 1;

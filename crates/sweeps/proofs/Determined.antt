@@ -1,24 +1,40 @@
--- Any two outcomes that a contract of this crate permits answer one number where they leave one table. Assumes nothing.
-use mathlib.Core.Path.{_≡_}
+-- What the contracts of `through` and `level_all` determine. Assumes nothing.
+use mathlib.Core.Bool.{Bool, true, false}
+use mathlib.Core.List.{List}
 use Prim.Native.Nat.{ℕ}
-use Rattle.contracts.specs.Contracts.{OfTwo, OneResultFor}
-use Rattle.passes.proofs.Passes.{kept-determined}
-use Rattle.sweeps.specs.declared.Swept.{Swept}
-use Rattle.sweeps.specs.declared.Swept.the-variants.{Struck, Emptied}
-use Rattle.sweeps.proofs.rules2.Kinds as rules2-kinds
-use Rattle.sweeps.proofs.rules2.Reads as rules2
-use Rattle.sweeps.proofs.rules3.Kinds as rules3-kinds
-use Rattle.sweeps.proofs.rules3.Reads as rules3
+use Rattle.rules.specs.Closing.{rules2}
+use Rattle.contracts.specs.Contracts.{OfTwo}
+use Rattle.passes.specs.Passes.{Idles}
+use Rattle.moves.proofs.Passing.{mirrored-idle}
+use Rattle.moves.proofs.Ending.{SameEnd, ended, one-end, went-ended, OneEnd}
+use Rattle.sweeps.specs.Sweeps.{Evenly, ThroughBoth, Leveled}
+use Rattle.sweeps.proofs.through.Kinds as through-kinds
+use Rattle.sweeps.proofs.through.Reads as through
+use Rattle.sweeps.proofs.level_all.Kinds as level-all-kinds
+use Rattle.sweeps.proofs.level_all.Reads as level-all
 
-pub rules2-counted : OneResultFor 1 rules2-kinds.ps rules2-kinds.r rules2.Asked rules2.Learnt (λ κs e. e .1 .0 .now)
-rules2-counted κs a asked x y d e p q same = kept-determined same (p .kept) (q .kept)
+-- where two tables are left in which rules 2 and 3 strike nothing, they are one, and so is the answer
+pub through-ended : OneEnd 3 through-kinds.ps through-kinds.r through.Asked through.Learnt (λ κs a. Evenly (a .0)) (λ κs x. x) (λ κs e. e .1 .1 .1 .1 .0 .now)
+through-ended κs a asked x y d e p q f g =
+    let v = a .0 in
+    let seen = ThroughBoth v (a .1 .1 .0) (a .1 .1 .1 .0) in
+    let t = a .1 .1 .1 .1 .0 .now in
+    let m = a .1 .1 .1 .1 .1 .0 .now in
+    one-end (Evenly v) v t (d .1 .1 .1 .1 .0 .now) (e .1 .1 .1 .1 .0 .now) x y
+    (went-ended (Evenly v) v t seen m (d .1 .1 .1 .1 .0 .now) (d .1 .1 .1 .1 .1 .0 .now) x p f)
+    (went-ended (Evenly v) v t seen m (e .1 .1 .1 .1 .0 .now) (e .1 .1 .1 .1 .1 .0 .now) y q g)
 
--- of two sweeps that came to no empty cell
-pub rules3-counted : OfTwo 1 rules3-kinds.ps rules3-kinds.r rules3.Asked rules3.Learnt
-    (λ κs x y d e. (m n : ℕ) → x ≡ Struck m → y ≡ Struck n → d .1 .0 .now ≡ e .1 .0 .now → m ≡ n)
-rules3-counted κs a asked x y d e = by x y
-  where
-    by : (x y : Swept) → rules3.Learnt κs a x d → rules3.Learnt κs a y e → (m n : ℕ) → x ≡ Struck m → y ≡ Struck n → d .1 .0 .now ≡ e .1 .0 .now → m ≡ n
-    by (Struck i) (Struck j) p q m n f g same = let k : i ≡ j = kept-determined same (p .kept) (q .kept) in cc
-    by (Struck i) Emptied p q m n f g same = cc
-    by Emptied y p q m n f g same = cc
+leveled-ended : (v : ℕ) (t w n : List ℕ) (some : Bool) → Leveled v t w n some → ended (Idles v (rules2 v)) v t w some
+leveled-ended v t w n true k =
+    record { table = k .fit .ready .table; filled = k .fit .filled; inside = k .inside; keeps = k .keeps; kept = mirrored-idle (k .fit .mirrored) }
+leveled-ended v t w n false f = f
+
+-- the answer, and the table unless an empty cell was met
+pub level-all-determined : OfTwo 2 level-all-kinds.ps level-all-kinds.r level-all.Asked level-all.Learnt
+    (λ κs x y d e. SameEnd x y (d .1 .0 .now) (e .1 .0 .now))
+level-all-determined κs a asked x y d e p q =
+    let v = a .0 in
+    let t = a .1 .0 .now in
+    one-end (Idles v (rules2 v)) v t (d .1 .0 .now) (e .1 .0 .now) x y
+    (leveled-ended v t (d .1 .0 .now) (d .1 .1 .0 .now) x p)
+    (leveled-ended v t (e .1 .0 .now) (e .1 .1 .0 .now) y q)

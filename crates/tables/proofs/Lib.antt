@@ -1,4 +1,5 @@
 -- The laws behind the functions of this crate.
 pub mod Narrowings
+pub mod Counting
 pub mod Shapes
 pub mod Determined

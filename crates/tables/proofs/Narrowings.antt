@@ -1,17 +1,12 @@
 -- A cell narrowed by a bound, where that changes it and where not. Assumes nothing.
-use mathlib.Core.Path.{_≡_, refl, sym, ap, _∙_}
-use mathlib.Core.List.{List, [], _∷_}
-use Prim.Native.Nat.{ℕ, zero, suc, _-_}
+use mathlib.Core.Path.{_≡_, sym, ap, _∙_}
+use mathlib.Core.List.{List}
+use Prim.Native.Nat.{ℕ, _-_}
 use native.Mathlib.Omega.{arith}
 use lib.ListN.{getD, set}
 use Rattle.rules.specs.Relations.{meet, size}
+use Rattle.rules.proofs.Strikes.{set-back}
 use Rattle.passes.specs.Passes.{Narrowed}
-
--- what stands in a place, put there
-set-back : (t : List ℕ) (k : ℕ) → set t k (getD t k 0) ≡ t
-set-back [] k = refl
-set-back (x ∷ xs) zero = refl
-set-back (x ∷ xs) (suc k) = ap (λ (ys : List ℕ). x ∷ ys) (set-back xs k)
 
 module _ (t : List ℕ) (k b is : ℕ) (e : is ≡ meet (getD t k 0) b) where
   pub narrowed-not : is ≡ getD t k 0 → Narrowed t k b t 0

@@ -1,10 +1,11 @@
 // Tables of sets, a byte for each pair of boards.
 ghost use mathlib.Core.Path.{_≡_};
-ghost use Prim.Native.Nat.{_≤_, _<_};
+ghost use Prim.Native.Nat.{ℕ, _≤_, _<_};
 ghost use lib.ListN.{length, getD};
 ghost use lib.Dec.{ltb};
 ghost use Rattle.rules.specs.Relations.{eachOf, setLimit};
-ghost use Rattle.rules.specs.Descriptions.{mostBoards};
+ghost use Rattle.rules.specs.Descriptions.{mostBoards, mostCells};
+ghost use Rattle.rules.specs.Tables.{total};
 ghost use Rattle.passes.specs.Passes.{Narrowed};
 ghost use Rattle.tables.specs.Asks.{asks};
 
@@ -63,4 +64,16 @@ pub fn narrow(cells: &mut [u8], k: usize, bound: u8) -> u32
     }
     cells[k] = is;
     relations::size(was) - relations::size(is)
+}
+
+// How many relations the cells have, all together.
+pub fn members(cells: &[u8]) -> u32
+    requires { ⌜ ((k : ℕ) → getD (now cells) k 0 < setLimit) × (length (now cells) ≤ mostCells) ⌝ }
+    ensures { λ n. ⌜ n ≡ total (now (cells .entry)) ⌝ }
+{
+    let mut count = 0;
+    for k in 0..cells.len() {
+        count += relations::size(cells[k]);
+    }
+    count
 }

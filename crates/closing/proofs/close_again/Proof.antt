@@ -4,7 +4,7 @@ use mathlib.Core.Path.{_≡_, subst}
 use Rattle.rules.specs.Descriptions.{Sheet}
 use Rattle.sheet.proofs.Described.{described, described-one, described-agreed}
 use Rattle.closing.specs.Closes.{closes}
-use Rattle.closing.proofs.Closings.{closing-again}
+use Rattle.closing.proofs.Closings.{closing-again, steady-selves}
 use native.Mathlib.Omega.{arith}
 use borrow.Author.Needs.{needs}
 use Rattle.closing.proofs.close_again.Statement.{statement}
@@ -35,7 +35,7 @@ rounds-requires : tie.Need-rounds-requires
 rounds-requires c κs =
     let start = c .before .before .before .before in
     let d = described (start .args .words .now) (start .args .h) (start .pre .0 .header) in
-    (start .pre .0 .ready, described-agreed (d .1))
+    (start .pre .0 .ready, described-agreed (d .1), d .1 .few-kinds, steady-selves (d .0) (d .1 .boards) (start .pre .0 .ready .table) (start .pre .1 (d .0) (d .1 .means)))
 
 same-length : tie.Need-same-length
 same-length c = search needs

@@ -1,212 +1,142 @@
 -- `relation_line` meets its contract: each of its ends is one of the laws of a line's front. Assumes nothing.
 use borrow.Author.Needs.{needs}
-use mathlib.Core.Path.{_≡_, sym, ap, _∙_}
-use mathlib.Core.Logic.{⊎-elim}
+use mathlib.Core.Path.{_≡_, sym, ap, _∙_, subst}
 use mathlib.Core.List.{List}
-use Prim.Native.Nat.{ℕ, _+_, _-_}
-use lib.ListN.{getD, take, drop}
-use Rattle.rules.proofs.Tests.{tested}
-use Rattle.rules.proofs.Lines.{OnBoards, relation-short, relation-no-length, relation-past, relation-no-p, relation-no-q}
-use Rattle.expressions.specs.declared.Expression.the-variants.{Set, Malformed}
+use Prim.Native.Nat.{ℕ, _-_}
+use native.Mathlib.Omega.{arith}
+use lib.ListN.{take, drop}
+use Rattle.rules.specs.Expressions.{expression}
+use Rattle.expressions.specs.declared.Expression.the-variants.{Set}
+use Rattle.expressions.specs.declared.Scanned.the-variants.{Fails}
+use Rattle.expressions.specs.Found.{scanFound}
 use Rattle.expressions.proofs.Evaluation.{Finds}
-use Rattle.lines.specs.Found.{relationFound}
-use Rattle.lines.proofs.Fronts.{part-length, broken-within, relation-malformed, over-within, relation-left-over, relation-line-found}
+use Rattle.lines.specs.declared.RelationFound.the-variants as relation
+use Rattle.lines.specs.Found.{relationFound, Passes, FrontTells}
+use Rattle.lines.proofs.Fronts.{malformed-fails, over-fails, none-whole, end-within, part-length, fails-within, relation-fails, relation-line-found}
 use Rattle.lines.proofs.relation_line.Statement.{statement}
 use Rattle.lines.proofs.relation_line.Tie as tie
 
--- what the tests before the expression showed
-module _ (c : tie.Else6) where
-  abbrev board : ℕ
-  board = c .before .before .before .before .before .before .before .before .before .before .before .before .before .args .v
-
+-- where the line passed the tests before its expression
+module _ (c : tie.After-known-told) where
   abbrev words : List ℕ
-  words = c .before .before .before .before .before .before .before .before .before .before .before .before .before .args .words .now
+  words = c .before .before .before .before .before .args .words .now
 
-  abbrev width : ℕ
-  width = c .before .before .before .before .before .before .before .before .before .word-number .result
+  abbrev end : ℕ
+  end = c .before .end .given .0 .0
 
-  measured : width ≡ getD words 2 0
-  measured = c .before .before .before .before .before .before .before .before .before .word-number .ensures
+  abbrev lent : List ℕ
+  lent = take (end - 3) (drop 3 words)
 
-  passed : OnBoards board words
-  passed =
-      record {
-        fits = record { three = omega tested; low = omega tested; high = omega tested; room = omega tested };
-        p-board = omega tested;
-        q-board = omega tested;
-      }
+  passed : Passes (c .before .before .before .before .before .args .v) words end
+  passed = subst (FrontTells (c .before .before .before .before .before .args .v) words) (c .before .end .given .1) (c .before .before .before .front .ensures)
 
-refused-requires : tie.Need-refused-requires
-refused-requires c κs = search needs
+front-requires : tie.Need-front-requires
+front-requires c κs = search needs
+
+enum-known-end : tie.Need-enum-known-end
+enum-known-end c = search needs
+
+enum-known-r : tie.Need-enum-known-r
+enum-known-r c = search needs
 
 returns : tie.Need-returns
 returns c =
-    let start = c .before .before .before in
-    c .refused .ensures ∙ sym (ap relationFound (relation-short (start .args .v) (start .args .words .now) (c .before .if1 .taken)))
-
-shared-slice-read-word-number : tie.Need-shared-slice-read-word-number
-shared-slice-read-word-number c = search needs
-
-word-number-requires : tie.Need-word-number-requires
-word-number-requires c κs = search needs
-
-refused-requires-2 : tie.Need-refused-requires-2
-refused-requires-2 c κs = search needs
-
-returns-2 : tie.Need-returns-2
-returns-2 c =
-    let start = c .before .before .before .before .before .before in
-    c .refused2 .ensures ∙ sym (ap relationFound (relation-no-length (start .args .v) (start .args .words .now) (omega tested)
-    (λ low high. ⊎-elim (λ w. omega tested) (λ w. omega tested) (c .before .if2 .came))))
-
-sub-if4 : tie.Need-sub-if4
-sub-if4 c = search needs
-
-refused-requires-3 : tie.Need-refused-requires-3
-refused-requires-3 c κs = search needs
-
-returns-3 : tie.Need-returns-3
-returns-3 c =
-    let start = c .before .before .before .before .before .before .before .before in
-    c .refused3 .ensures
-    ∙ sym (ap relationFound (relation-past (start .args .v) (start .args .words .now) (omega tested) (omega tested) (omega tested) (omega tested)))
-
-shared-slice-read-word-number-2 : tie.Need-shared-slice-read-word-number-2
-shared-slice-read-word-number-2 c = search needs
-
-word-number-requires-2 : tie.Need-word-number-requires-2
-word-number-requires-2 c κs = search needs
-
-refused-requires-4 : tie.Need-refused-requires-4
-refused-requires-4 c κs = search needs
-
-returns-4 : tie.Need-returns-4
-returns-4 c =
-    let start = c .before .before .before .before .before .before .before .before .before .before .before in
-    c .refused4 .ensures ∙ sym (ap relationFound (relation-no-p (start .args .v) (start .args .words .now)
-    (record { three = omega tested; low = omega tested; high = omega tested; room = omega tested }) (omega tested)))
-
-shared-slice-read-word-number-3 : tie.Need-shared-slice-read-word-number-3
-shared-slice-read-word-number-3 c = search needs
-
-word-number-requires-3 : tie.Need-word-number-requires-3
-word-number-requires-3 c κs = search needs
-
-refused-requires-5 : tie.Need-refused-requires-5
-refused-requires-5 c κs = search needs
-
-returns-5 : tie.Need-returns-5
-returns-5 c =
-    let start = c .before .before .before .before .before .before .before .before .before .before .before .before .before .before in
-    c .refused5 .ensures ∙ sym (ap relationFound (relation-no-q (start .args .v) (start .args .words .now)
-    (record { three = omega tested; low = omega tested; high = omega tested; room = omega tested }) (omega tested) (omega tested)))
-
-add-end : tie.Need-add-end
-add-end c = omega tested
+    let start = c .before .before .before .before .before in
+    sym (ap relationFound (subst (FrontTells (start .args .v) (start .args .words .now)) (c .before .r .given .1) (c .before .before .before .front .ensures)))
 
 sub-evaluate : tie.Need-sub-evaluate
-sub-evaluate c = search needs
+sub-evaluate c = omega (arith, passed c .ends)
 
 part-evaluate-start : tie.Need-part-evaluate-start
-part-evaluate-start c = search needs
+part-evaluate-start c = omega (arith, passed c .ends)
 
 part-evaluate-end : tie.Need-part-evaluate-end
-part-evaluate-end c = omega tested
+part-evaluate-end c = omega (arith, end-within (passed c), passed c .ends)
 
 evaluate-requires : tie.Need-evaluate-requires
-evaluate-requires c κs = omega (tested, part-length (width (c .before)) (words (c .before)) (omega tested))
+evaluate-requires c κs = let l = part-length (passed (c .before)) in omega (arith, passed (c .before) .ends, passed (c .before) .high)
 
 enum-known-x : tie.Need-enum-known-x
 enum-known-x c = search needs
 
--- what the expression is found to be: a set and the words after it, or the words from where it fails
-module _ (c : tie.After-known-told) where
-  abbrev told : tie.Else6
-  told = c .before .before .before .before .before
+-- where the expression has a set, and where it leaves words
+module _ (c : tie.After-known-told3) where
+  abbrev tested : tie.After-known-told
+  tested = c .before .before .before .before .before
 
-  found : Finds (take (3 + width told - 3) (drop 3 (words told))) (Set (c .before .x .given .0 .0) (c .before .x .given .0 .1 .0))
+  found : Finds (lent tested) (Set (c .before .x .given .0 .0) (c .before .x .given .0 .1 .0))
   found = sym (c .before .x .given .1) ∙ c .before .before .before .evaluate .ensures
 
-module _ (c : tie.After-known-told2) where
-  abbrev broken-told : tie.Else6
-  broken-told = c .before .before .before .before .before
+over : (c : tie.Then1) → Fails (c .before .before .x .given .0 .1 .0) ≡ scanFound (expression (lent (tested (c .before))))
+over c = over-fails _ _ _ (c .if1 .taken) (found (c .before))
 
-  broken : Finds (take (3 + width broken-told - 3) (drop 3 (words broken-told))) (Malformed (c .before .left .given .0 .0))
-  broken = sym (c .before .left .given .1) ∙ c .before .before .before .evaluate .ensures
+no-expression-requires : tie.Need-no-expression-requires
+no-expression-requires c κs = omega (arith, fails-within (passed (tested (c .before))) _ (over c))
 
-sub-refused : tie.Need-sub-refused
-sub-refused c =
-    let at = told (c .before) in
-    omega (tested, over-within (board at) (words at) (passed at) (width at) (measured at) _ _ (found (c .before)))
+returns-2 : tie.Need-returns-2
+returns-2 c =
+    ap relation.Refused (c .no-expression .ensures) ∙ sym (ap relationFound (relation-fails (passed (tested (c .before .before))) _ (over (c .before))))
 
-refused-requires-6 : tie.Need-refused-requires-6
-refused-requires-6 c κs = search needs
+shared-slice-read-word-number : tie.Need-shared-slice-read-word-number
+shared-slice-read-word-number c = omega (arith, passed (tested (c .before .before)) .three)
 
-returns-6 : tie.Need-returns-6
-returns-6 c =
-    let at = told (c .before .before) in
-    c .refused6 .ensures
-    ∙ sym (ap relationFound (relation-left-over (board at) (words at) (passed at) (width at) (measured at) _ _ (found (c .before .before)) (c .before .if7 .taken)))
+word-number-requires : tie.Need-word-number-requires
+word-number-requires c κs = search needs
 
-sub-t30 : tie.Need-sub-t30
-sub-t30 c = search needs
+shared-slice-read-word-number-2 : tie.Need-shared-slice-read-word-number-2
+shared-slice-read-word-number-2 c = omega (arith, passed (tested (c .before .before .before .before)) .three)
+
+word-number-requires-2 : tie.Need-word-number-requires-2
+word-number-requires-2 c κs = search needs
+
+sub-t26 : tie.Need-sub-t26
+sub-t26 c = end-within (passed (tested (c .before .before .before .before .before)))
 
 enum-known-left : tie.Need-enum-known-left
 enum-known-left c = search needs
 
-sub-refused-2 : tie.Need-sub-refused-2
-sub-refused-2 c =
-    let at = broken-told c in
-    omega (tested, broken-within (board at) (words at) (passed at) (width at) (measured at) _ (broken c))
+-- where the expression fails
+module _ (c : tie.After-known-told4) where
+  abbrev tried : tie.After-known-told
+  tried = c .before .before .before .before .before
 
-refused-requires-7 : tie.Need-refused-requires-7
-refused-requires-7 c κs = search needs
+  broken : Fails (c .before .left .given .0 .0) ≡ scanFound (expression (lent tried))
+  broken = malformed-fails _ _ (sym (c .before .left .given .1) ∙ c .before .before .before .evaluate .ensures)
 
-returns-7 : tie.Need-returns-7
-returns-7 c =
-    let at = told (c .before) in
-    relation-line-found (board at) (words at) (passed at) (width at) (measured at) _ _ (found (c .before)) (c .if7 .left) _ _
-    (at .before .before .before .before .word-number2 .ensures) (at .before .word-number3 .ensures)
+no-expression-requires-2 : tie.Need-no-expression-requires-2
+no-expression-requires-2 c κs = omega (arith, fails-within (passed (tried c)) _ (broken c))
 
-returns-8 : tie.Need-returns-8
-returns-8 c =
-    let at = broken-told (c .before) in
-    c .refused7 .ensures
-    ∙ sym (ap relationFound (relation-malformed (board at) (words at) (passed at) (width at) (measured at) _ (broken (c .before))))
+returns-3 : tie.Need-returns-3
+returns-3 c =
+    let at = c .before .before .before .before in
+    relation-line-found (passed (tested (at .before))) _ (none-whole _ _ _ (at .if1 .left) (found (at .before))) _ _ (c .before .before .word-number .ensures)
+    (c .word-number2 .ensures)
+
+returns-4 : tie.Need-returns-4
+returns-4 c =
+    ap relation.Refused (c .no-expression2 .ensures) ∙ sym (ap relationFound (relation-fails (passed (tried (c .before))) _ (broken (c .before))))
 
 pub relation-line-spec : {M : Type 1} → statement M
 relation-line-spec =
     tie.close
     (tie.spec
-    refused-requires
+    front-requires
+    enum-known-end
+    enum-known-r
     returns
-    shared-slice-read-word-number
-    word-number-requires
-    refused-requires-2
-    returns-2
-    sub-if4
-    refused-requires-3
-    returns-3
-    shared-slice-read-word-number-2
-    word-number-requires-2
-    refused-requires-4
-    returns-4
-    shared-slice-read-word-number-3
-    word-number-requires-3
-    refused-requires-5
-    returns-5
-    add-end
     sub-evaluate
     part-evaluate-start
     part-evaluate-end
     evaluate-requires
     enum-known-x
-    sub-refused
-    refused-requires-6
-    returns-6
-    sub-t30
+    no-expression-requires
+    returns-2
+    shared-slice-read-word-number
+    word-number-requires
+    shared-slice-read-word-number-2
+    word-number-requires-2
+    sub-t26
     enum-known-left
-    sub-refused-2
-    refused-requires-7
-    returns-7
-    returns-8)
+    no-expression-requires-2
+    returns-3
+    returns-4)

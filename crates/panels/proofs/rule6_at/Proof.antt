@@ -14,21 +14,21 @@ use Rattle.panels.proofs.rule6_at.Statement.{statement}
 use Rattle.panels.proofs.rule6_at.Tie as tie
 
 mul-k : tie.Need-mul-k
-mul-k c = let pre = c .before .before .before .pre in record { fits = omega (arith, place-few (pre .0 .boards) (pre .1 .board) (pre .2)) }
+mul-k c = let pre = c .before .before .before .before .pre in record { fits = omega (arith, place-few (pre .0 .ready .boards) (pre .2 .board) (pre .3)) }
 
 add-k : tie.Need-add-k
-add-k c = let pre = c .before .before .before .pre in record { fits = omega (arith, place-few (pre .0 .boards) (pre .1 .board) (pre .2)) }
+add-k c = let pre = c .before .before .before .before .pre in record { fits = omega (arith, place-few (pre .0 .ready .boards) (pre .2 .board) (pre .3)) }
 
 slice-read-x : tie.Need-slice-read-x
-slice-read-x c = let pre = c .before .before .before .before .pre in ready-place (pre .0) (pre .1 .board) (pre .2)
+slice-read-x c = let pre = c .before .before .before .before .before .pre in ready-place (pre .0 .ready) (pre .2 .board) (pre .3)
 
 meet-requires : tie.Need-meet-requires
-meet-requires c κs = (c .before .before .before .before .pre .0 .table .small _, single-small relations-pos)
+meet-requires c κs = (c .before .before .before .before .before .pre .0 .ready .table .small _, single-small relations-pos)
 
 returns : tie.Need-returns
 returns c =
-    let pre = c .before .before .before .before .before .before .pre in
-    rule6-at-lacks _ _ _ _ (pre .0) (pre .1 .board) (pre .2) (sym (c .before .meet .ensures) ∙ c .if1 .taken)
+    let pre = c .before .before .before .before .before .before .before .pre in
+    rule6-at-lacks _ _ _ (pre .0) (pre .1) (pre .2 .board) (pre .3) (sym (c .before .meet .ensures) ∙ c .if1 .taken)
 
 mul-ways : tie.Need-mul-ways
 mul-ways c = search needs
@@ -45,82 +45,84 @@ part-ways-end c = search needs
 reaching-requires : tie.Need-reaching-requires
 reaching-requires c κs = search needs
 
-narrow-requires : tie.Need-narrow-requires
+strike-requires : tie.Need-strike-requires
 unfolding relations
-narrow-requires c κs =
-    let pre = c .before .before .before .before .before .before .before .before .before .before .before .pre in
-    (ready-place (pre .0) (pre .1 .board) (pre .2), pre .0 .table .small _, omega arith)
+strike-requires c κs =
+    let pre = c .before .before .before .before .before .before .before .before .before .before .before .before .before .pre in
+    (pre .0, pre .1, omega (arith, pre .2 .board, pre .3), omega (arith, pre .2 .board, pre .3), omega arith)
 
 same-length : tie.Need-same-length
 same-length c = search needs
 
+same-length-2 : tie.Need-same-length-2
+same-length-2 c = search needs
+
 returns-2 : tie.Need-returns-2
 unfolding relations has setTo setOf complement
 returns-2 c =
-    let pre = c .before .before .before .before .before .before .before .before .before .before .before .before .before .before .pre in
-    let test = c .before .before .before .before .before .before .before .before in
-    rule6-at-none _ _ _ _ (pre .0) (pre .1 .board) (pre .2) (λ e. test .if1 .left (test .before .meet .ensures ∙ e))
-    (c .before .before .before .before .before .reaching .ensures) (c .before .before .before .before .if2 .taken) (c .before .before .narrow .ensures)
+    let struck = c .before .before .before .before in
+    let pre = struck .before .before .before .before .before .before .before .before .before .before .before .before .before .before .pre in
+    rule6-at-none _ _ _ (pre .0) (pre .1) (pre .2 .board) (pre .3) (struck .before .before .before .before .reaching .ensures)
+    (struck .before .before .before .if2 .taken) _ (struck .strike .ensures)
 
 add-reaching : tie.Need-add-reaching
 add-reaching c = search needs
 
 reaching-requires-2 : tie.Need-reaching-requires-2
 reaching-requires-2 c κs =
-    let pre = c .before .before .before .before .before .before .before .before .before .before .before .before .pre in
-    (pre .0, pre .1 .boards, pre .2, omega (arith, reaching-inner (c .before .before .before .reaching .ensures) (c .before .before .if2 .left)))
+    let pre = c .before .before .before .before .before .before .before .before .before .before .before .before .before .pre in
+    (pre .0 .ready, pre .2 .boards, pre .3, omega (arith, reaching-inner (c .before .before .before .reaching .ensures) (c .before .before .if2 .left)))
 
-same-length-2 : tie.Need-same-length-2
-same-length-2 c = search needs
+same-length-3 : tie.Need-same-length-3
+same-length-3 c = search needs
 
 returns-3 : tie.Need-returns-3
 returns-3 c =
-    let pre = c .before .before .before .before .before .before .before .before .before .before .before .pre in
+    let pre = c .before .before .before .before .before .before .before .before .before .before .before .before .pre in
     let first = c .before .before .reaching .ensures in
     let found = reaching-inner first (c .before .if2 .left) in
-    ⊎-elim (λ w. rule6-at-more _ _ _ _ (pre .0) (pre .1 .board) (pre .2) first found (w .taken))
-    (λ w. rule6-at-two _ _ _ _ (pre .0) (pre .1 .board) (pre .2) first found (w .2 .ensures) (ltb-true _ _ (w .3 .taken))) (c .if3 .came)
+    ⊎-elim (λ w. rule6-at-more _ _ _ (pre .0) (pre .1) (pre .2 .board) (pre .3) first found (w .taken))
+    (λ w. rule6-at-two _ _ _ (pre .0) (pre .1) (pre .2 .board) (pre .3) first found (w .2 .ensures) (ltb-true _ _ (w .3 .taken))) (c .if3 .came)
 
 way-requires : tie.Need-way-requires
 way-requires c κs = search needs
 
 -- the way is a board
 board : (c : tie.After-way)
-    → c .way .result < c .before .before .before .before .before .before .before .before .before .before .before .before .before .before .before .args .v
+    → c .way .result < c .before .before .before .before .before .before .before .before .before .before .before .before .before .before .before .before .args .v
 board c =
     let first = c .before .before .before .before .before .before in
     let inner = reaching-inner (first .reaching .ensures) (c .before .before .before .before .before .if2 .left) in
-    omega (arith, c .way .ensures, first .before .before .before .before .before .before .before .before .before .pre .1 .boards (first .reaching .result) inner)
+    omega (
+      arith,
+      c .way .ensures,
+      first .before .before .before .before .before .before .before .before .before .before .pre .2 .boards
+          (first .reaching .result) inner,
+    )
 
-mul-l : tie.Need-mul-l
-mul-l c =
-    let pre = c .before .before .before .before .before .before .before .before .before .before .before .before .before .before .before .pre in
-    record { fits = omega (arith, place-few (pre .0 .boards) (board c) (pre .2)) }
-
-add-l : tie.Need-add-l
-add-l c =
-    let pre = c .before .before .before .before .before .before .before .before .before .before .before .before .before .before .before .pre in
-    record { fits = omega (arith, place-few (pre .0 .boards) (board c) (pre .2)) }
-
-narrow-requires-2 : tie.Need-narrow-requires-2
+strike-requires-2 : tie.Need-strike-requires-2
 unfolding relations
-narrow-requires-2 c κs =
-    let pre = c .before .before .before .before .before .before .before .before .before .before .before .before .before .before .before .before .pre in
-    (ready-place (pre .0) (board (c .before)) (pre .2), pre .0 .table .small _, omega arith)
+strike-requires-2 c κs =
+    let pre = c .before .before .before .before .before .before .before .before .before .before .before .before .before .before .before .before .before .before .pre in
+    (pre .0, pre .1, board (c .before .before), pre .3, omega arith)
 
-same-length-3 : tie.Need-same-length-3
-same-length-3 c = search needs
+same-length-4 : tie.Need-same-length-4
+same-length-4 c = search needs
+
+same-length-5 : tie.Need-same-length-5
+same-length-5 c = search needs
 
 returns-4 : tie.Need-returns-4
 unfolding relations has setTo setOf join
 returns-4 c =
-    let met = c .before .before .before .before in
-    let pre = met .before .before .before .before .before .before .before .before .before .before .before .before .before .before .before .pre in
+    let struck = c .before .before .before .before in
+    let met = struck .before .before .before in
+    let pre = met .before .before .before .before .before .before .before .before .before .before .before .before .before .before .before .before .pre in
     let first = met .before .before .before .before .before .before .reaching .ensures in
     let inner = reaching-inner first (met .before .before .before .before .before .if2 .left) in
-    rule6-at-alone _ _ _ _ (pre .0) (pre .1 .board) (pre .2) first inner (met .before .before .before .before .if3 .left)
-    (met .before .before .reaching2 .ensures) (ltb-false _ _ (met .before .if4 .left)) (met .way .ensures) (ready-place (pre .0) (board met) (pre .2))
-    (c .before .before .narrow2 .ensures)
+    rule6-at-alone _ _ _ (pre .0) (pre .1) (pre .2 .board) (pre .3) first inner (met .before .before .before .before .if3 .left)
+    (met .before .before .reaching2 .ensures) (ltb-false _ _ (met .before .if4 .left))
+    (pre .2 .boards _ inner) _ (met .way .ensures) (struck .strike2 .ensures)
 
 pub rule6-at-spec : {M : Type 1} → statement M
 rule6-at-spec =
@@ -136,16 +138,16 @@ rule6-at-spec =
     part-ways-start
     part-ways-end
     reaching-requires
-    narrow-requires
+    strike-requires
     same-length
+    same-length-2
     returns-2
     add-reaching
     reaching-requires-2
-    same-length-2
+    same-length-3
     returns-3
     way-requires
-    mul-l
-    add-l
-    narrow-requires-2
-    same-length-3
+    strike-requires-2
+    same-length-4
+    same-length-5
     returns-4)

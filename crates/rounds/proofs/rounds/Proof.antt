@@ -1,83 +1,90 @@
--- `rounds` meets its contract: the rounds so far keep what is to be kept, and the last one struck nothing. The measure is the number of relations
--- left. Assumes nothing.
-use mathlib.Core.Path.{_∙_, subst}
+-- `rounds` meets its contract: what the list leaves is settled, and as many relations are struck as there are fewer. Assumes nothing.
+use mathlib.Core.Path.{_≡_, refl, sym, ap, _∙_, subst}
+use Prim.Native.Nat.{ℕ, _≤_}
+use native.Mathlib.Nat.{mul-le-mul}
 use native.Mathlib.Omega.{arith}
 use borrow.Author.Needs.{needs}
+use lib.ListN.{length, replicate, length-replicate}
+use Rattle.rules.specs.Descriptions.{mostBoards}
 use Rattle.rules.specs.Tables.{total}
-use Rattle.passes.specs.Passes.{Kept}
-use Rattle.passes.proofs.Passes.{kept-start, kept-few, ready-kept}
-use Rattle.kinds.specs.Sections.{WithKinds}
-use Rattle.rounds.specs.Rounds.{rulesAgain, afterRound}
-use Rattle.rounds.proofs.Repeating.{rounds-again, rounds-settled, rounds-clash}
+use Rattle.rules.proofs.Inside.{total-mono}
+use Rattle.moves.proofs.Striking.{not-so, not-not-so}
+use Rattle.rounds.specs.Rounds.{drained}
+use Rattle.rounds.proofs.Draining.{drained-settled, empty-list, cells-few}
 use Rattle.rounds.proofs.rounds.Statement.{statement}
 use Rattle.rounds.proofs.rounds.Tie as tie
 
-abbrev Inv-loop : tie.InvT-loop
-Inv-loop v count words cells₀ struck₀ cells struck = WithKinds v count words (λ ks. Kept v (rulesAgain v ks) cells₀ struck₀ cells struck)
+members-requires : tie.Need-members-requires
+members-requires c κs = let pre = c .before .before .before .pre in (pre .0 .table .small, cells-few (pre .0))
 
-abbrev μ-loop : tie.MeasureT-loop
-μ-loop v count words cells₀ struck₀ cells struck = total cells
+index-room-requires : tie.Need-index-room-requires
+index-room-requires c κs = search needs
 
-loop-holds : tie.Need-loop-holds Inv-loop μ-loop
-loop-holds c = λ ks e. kept-start (c .before .before .pre .0 .table)
+slice-aggregate-index : tie.Need-slice-aggregate-index
+slice-aggregate-index c = search needs
 
-round-requires : tie.Need-round-requires Inv-loop μ-loop
-round-requires c κs =
-    let pre = c .before .before .before .before .pre in
-    (ready-kept (pre .0) (c .before .loop .inv (pre .1 .0 .0) (pre .1 .0 .1)), pre .1)
+index-requires : tie.Need-index-requires
+index-requires c κs =
+    let start = c .before .before .before .before .before .before in
+    ((start .pre .2, (start .args .v, start .pre .0 .boards, start .pre .1 .0)), c .before .index-room .ensures)
 
-enum-known-more : tie.Need-enum-known-more Inv-loop μ-loop
-enum-known-more c = search needs
+marks-room-requires : tie.Need-marks-room-requires
+marks-room-requires c κs = search needs
 
-enum-told : tie.Need-enum-told Inv-loop μ-loop
-enum-told c = search needs
+slice-aggregate-settle : tie.Need-slice-aggregate-settle
+slice-aggregate-settle c = search needs
 
-same-length : tie.Need-same-length Inv-loop μ-loop
-same-length c = let ks = c .before .before .before .before .before .before .before .before .before .pre .1 .0 in c .before .before .before .before .round .kept .1 .1 .1 .0 ∙ c .before .before .before .before .before .before .loop .inv (ks .0) (ks .1) .inside .cells
+slice-aggregate-settle-2 : tie.Need-slice-aggregate-settle-2
+slice-aggregate-settle-2 c = search needs
 
-returns : tie.Need-returns Inv-loop μ-loop
-returns c = λ ks e.
-    let v = c .before .before .before .before .before .before .before .before .before .args .v in
-    rounds-clash (rulesAgain v ks) (c .before .before .before .before .before .before .loop .inv ks e) (subst (afterRound v (rulesAgain v ks) _ _) (c .enum-told .given .1) (c .before .before .before .before .round .ensures ks e))
+settle-requires : tie.Need-settle-requires
+settle-requires c κs =
+    let pre = c .before .before .before .before .before .before .before .before .before .before .before .before .pre in
+    (pre .0, pre .3, empty-list _ (c .before .before .before .marks-room .ensures), record { agreed = pre .1; few = pre .2; index = c .before .before .before .before .before .index .ensures })
 
-same-length-2 : tie.Need-same-length-2 Inv-loop μ-loop
-same-length-2 c = let ks = c .before .before .before .before .before .before .before .before .before .before .before .pre .1 .0 in c .before .before .before .before .before .before .round .kept .1 .1 .1 .0 ∙ c .before .before .before .before .before .before .before .before .loop .inv (ks .0) (ks .1) .inside .cells
+same-length : tie.Need-same-length
+same-length c = search needs
 
-returns-2 : tie.Need-returns-2 Inv-loop μ-loop
+returns : tie.Need-returns
+returns c = λ ks e x h i d.
+    subst (drained _ _ _ _ _) (not-so (c .before .before .before .before .settle .result) (c .if1 .taken)) (c .before .before .before .before .settle .ensures ks e) x h d i
+
+members-requires-2 : tie.Need-members-requires-2
+members-requires-2 c κs =
+    let pre = c .before .before .before .before .before .before .before .before .before .before .before .before .before .before .before .before .before .before .pre in
+    let has = pre .1 .0 in
+    let left = subst (drained _ _ _ _ _) (not-not-so (c .before .before .before .before .before .settle .result) (c .before .if1 .left)) (c .before .before .before .before .before .settle .ensures (has .0) (has .1)) in
+    (left .fit .ready .table .small, cells-few (left .fit .ready))
+
+sub-struck : tie.Need-sub-struck
+sub-struck c =
+    let has = c .before .before .before .before .before .before .before .before .before .before .before .before .before .before .before .before .before .before .before .pre .1 .0 in
+    let left = subst (drained _ _ _ _ _) (not-not-so (c .before .before .before .before .before .before .settle .result) (c .before .before .if1 .left)) (c .before .before .before .before .before .before .settle .ensures (has .0) (has .1)) in
+    omega (arith, total-mono (left .inside), c .members2 .ensures, c .before .before .before .before .before .before .before .before .before .before .before .before .before .before .before .members .ensures)
+
+same-length-2 : tie.Need-same-length-2
+same-length-2 c = search needs
+
+returns-2 : tie.Need-returns-2
 returns-2 c = λ ks e.
-    let v = c .before .before .before .before .before .before .before .before .before .before .before .args .v in
-    rounds-settled (rulesAgain v ks) (c .before .before .before .before .before .before .before .before .loop .inv ks e) (subst (afterRound v (rulesAgain v ks) _ _) (c .before .before .more .given .1) (c .before .before .before .before .before .before .round .ensures ks e)) (c .if1 .taken)
-
-loop-again : tie.Need-loop-again Inv-loop μ-loop
-loop-again c = λ ks e.
-    let v = c .before .before .before .before .before .before .before .before .before .before .before .args .v in
-    rounds-again (rulesAgain v ks) (c .before .before .before .before .before .before .before .before .loop .inv ks e) (subst (afterRound v (rulesAgain v ks) _ _) (c .before .before .more .given .1) (c .before .before .before .before .before .before .round .ensures ks e))
-
-add-struck : tie.Need-add-struck Inv-loop μ-loop
-add-struck c = let ks = c .before .before .before .before .before .before .before .before .before .before .before .pre .1 .0 in record { fits = omega (arith, kept-few (c .before .before .before .before .before .before .before .before .before .before .before .pre .0) (loop-again c (ks .0) (ks .1))) }
-
-loop-less : tie.Need-loop-less Inv-loop μ-loop
-loop-less c =
-    let ks = c .before .before .before .before .before .before .before .before .before .before .before .pre .1 .0 in
-    let before = c .before .before .before .before .before .before .before .before .loop .inv (ks .0) (ks .1) .counted in
-    let after = loop-again c (ks .0) (ks .1) .counted in
-    let l = c .if1 .left in
-    omega arith
+    let left = subst (drained _ _ _ _ _) (not-not-so (c .before .before .before .before .before .before .settle .result) (c .before .before .if1 .left)) (c .before .before .before .before .before .before .settle .ensures ks e) in
+    drained-settled left (c .before .before .before .before .before .before .before .before .before .before .before .before .before .before .before .members .ensures) (c .members2 .ensures)
 
 pub rounds-spec : {M : Type 1} → statement M
 rounds-spec =
     tie.close
     (tie.spec
-    Inv-loop
-    μ-loop
-    loop-holds
-    round-requires
-    enum-known-more
-    enum-told
+    members-requires
+    index-room-requires
+    slice-aggregate-index
+    index-requires
+    marks-room-requires
+    slice-aggregate-settle
+    slice-aggregate-settle-2
+    settle-requires
     same-length
     returns
+    members-requires-2
+    sub-struck
     same-length-2
-    returns-2
-    add-struck
-    loop-less
-    loop-again)
+    returns-2)

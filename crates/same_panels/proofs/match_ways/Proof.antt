@@ -1,49 +1,61 @@
--- `match_ways` meets its contract: the cells are what strikes by the pairs of ways that were passed make of them. The measure is the ways left.
+-- `match_ways` meets its contract: the pairs of ways passed are the same, and no table is lost that is to be kept. The measure is the ways left.
 -- Assumes nothing.
-use mathlib.Core.List.{flatMap}
-use Prim.Native.Nat.{_-_, _≤_}
+use Prim.Native.Nat.{ℕ, _-_, _≤_, _<_}
 use native.Mathlib.Omega.{arith}
-use lib.ListN.{length}
-use Rattle.rules.specs.Relations.{relations}
-use Rattle.rules.specs.Tables.{upTo}
-use Rattle.passes.specs.Passes.{Pass, Quiet}
-use Rattle.passes.proofs.Passes.{pass-start, pass-whole, kept-few, ready-kept}
-use Rattle.same_panels.proofs.Matching.{pair, pair-inside, joined-more}
+use borrow.Author.Count.{below-none}
+use borrow.Author.Needs.{needs}
+use borrow.Author.Tests.{not-true, not-false}
+use lib.ListN.{getD}
+use Rattle.rules.specs.Relations.{relations, E, _liesWithin_}
+use Rattle.rules.specs.Tables.{cell}
+use Rattle.passes.specs.Passes.{Idles}
+use Rattle.moves.specs.Moves.{Moved}
+use Rattle.moves.proofs.Moving.{moved-none}
+use Rattle.same_panels.specs.Pairs.{joined}
+use Rattle.same_panels.proofs.Matching.{other-within, pair-boards, joined-more, joined-lost}
 use Rattle.same_panels.proofs.match_ways.Statement.{statement}
 use Rattle.same_panels.proofs.match_ways.Tie as tie
 
 abbrev Inv-loop : tie.InvT-loop
-Inv-loop v ways others cells₀ struck₀ i₀ i-end cells struck i =
-    (i ≤ i-end) × Pass (Quiet v) v (flatMap (pair ways others) (upTo i)) cells₀ struck₀ cells struck
+Inv-loop v ways others cells₀ marks₀ i₀ i-end cells marks i =
+    (i ≤ i-end)
+    × Moved (Idles v (joined v ways others)) v cells₀ marks₀ cells marks
+    × ((j : ℕ) → j < i → cell v cells (getD ways j 0) (getD others j 0) liesWithin E)
 
 abbrev μ-loop : tie.MeasureT-loop
-μ-loop v ways others cells₀ struck₀ i₀ i-end cells struck i = i-end - i
+μ-loop v ways others cells₀ marks₀ i₀ i-end cells marks i = i-end - i
 
 loop-holds : tie.Need-loop-holds Inv-loop μ-loop
-loop-holds c = (omega arith, pass-start _ _ (c .before .before .before .pre .0 .table))
+loop-holds c = let pre = c .before .before .before .before .pre in (omega arith, moved-none (pre .0) (pre .1), below-none _)
 
-pair-place-requires : tie.Need-pair-place-requires Inv-loop μ-loop
-pair-place-requires c κs = let pre = c .before .before .before .before .before .pre in (pre .0 .boards, pre .1, c .loop-test .taken)
+way-requires : tie.Need-way-requires Inv-loop μ-loop
+way-requires c κs = search needs
 
-narrow-requires : tie.Need-narrow-requires Inv-loop μ-loop
+way-requires-2 : tie.Need-way-requires-2 Inv-loop μ-loop
+way-requires-2 c κs =
+    let start = c .before .before .before .before .before .before .before in
+    other-within (start .pre .2) (c .before .loop-test .taken)
+
+strike-requires : tie.Need-strike-requires Inv-loop μ-loop
 unfolding relations
-narrow-requires c κs =
-    let pre = c .before .before .before .before .before .before .before .pre in
-    let table = ready-kept (pre .0) (c .before .before .before .loop .inv .1 .kept) in
-    (pair-inside (pre .1) (c .before .before .loop-test .taken) (c .before .pair-place .ensures) table, table .table .small _, omega arith)
+strike-requires c κs =
+    let turn = c .before .before .before .before in
+    let moved = turn .before .loop .inv .1 in
+    let boards = pair-boards (turn .before .before .before .before .before .before .pre .2) (turn .loop-test .taken) (c .before .before .before .way .ensures) (c .before .before .way2 .ensures) in
+    (moved .fit, moved .list, boards .0, boards .1, omega arith)
 
-loop-again : tie.Need-loop-again Inv-loop μ-loop
-loop-again c =
-    let here = c .before .before .before .before in
-    let pre = here .before .before .before .before .before .before .pre in (
-      omega arith,
-      joined-more (pre .1) (here .before .loop-test .taken) (here .pair-place .ensures) (pre .0) (here .before .before .loop .inv .1) (c .before .before .narrow .ensures),
-    )
+same-length : tie.Need-same-length Inv-loop μ-loop
+same-length c = search needs
 
-add-struck : tie.Need-add-struck Inv-loop μ-loop
-add-struck c =
-    let pre = c .before .before .before .before .before .before .before .before .before .before .pre in
-    record { fits = omega (arith, kept-few (pre .0) (loop-again c .1 .kept)) }
+same-length-2 : tie.Need-same-length-2 Inv-loop μ-loop
+same-length-2 c = search needs
+
+returns : tie.Need-returns Inv-loop μ-loop
+returns c =
+    let call = c .before .before .before .before .before in
+    let turn = call .before .before .before .before .before in
+    joined-lost (turn .before .before .before .before .before .before .pre .2) (turn .loop-test .taken) (call .before .before .before .before .way .ensures)
+    (call .before .before .before .way2 .ensures) (turn .before .loop .inv .1) (call .strike .ensures) (not-true _ (c .if1 .taken))
 
 add-i : tie.Need-add-i Inv-loop μ-loop
 add-i c = omega arith
@@ -51,14 +63,24 @@ add-i c = omega arith
 loop-less : tie.Need-loop-less Inv-loop μ-loop
 loop-less c = omega arith
 
-same-length : tie.Need-same-length Inv-loop μ-loop
-same-length c = c .before .loop .inv .1 .kept .inside .cells
+loop-again : tie.Need-loop-again Inv-loop μ-loop
+loop-again c =
+    let call = c .before .before .before .before .before in
+    let turn = call .before .before .before .before .before in
+    let (few, moved, each) = turn .before .loop .inv in
+    let (more, also) =
+    joined-more (turn .before .before .before .before .before .before .pre .2) (turn .loop-test .taken) (call .before .before .before .before .way .ensures)
+    (call .before .before .before .way2 .ensures) moved (call .strike .ensures) each (not-false _ (c .if1 .left)) in
+    (omega arith, more, also)
 
-returns : tie.Need-returns Inv-loop μ-loop
-returns c =
-    let start = c .before .before .before .before .before in
-    pass-whole _ (pair (start .args .ways .now) (start .args .others .now)) (length (start .args .ways .now)) (c .before .loop .inv .0) (c .loop-test .left)
-    (c .before .loop .inv .1)
+same-length-3 : tie.Need-same-length-3 Inv-loop μ-loop
+same-length-3 c = search needs
+
+same-length-4 : tie.Need-same-length-4 Inv-loop μ-loop
+same-length-4 c = search needs
+
+returns-2 : tie.Need-returns-2 Inv-loop μ-loop
+returns-2 c = let (few, moved, each) = c .before .loop .inv in (moved, λ i h. each i (omega (arith, c .loop-test .left)))
 
 pub match-ways-spec : {M : Type 1} → statement M
 match-ways-spec =
@@ -67,11 +89,15 @@ match-ways-spec =
     Inv-loop
     μ-loop
     loop-holds
-    pair-place-requires
-    narrow-requires
-    add-struck
+    way-requires
+    way-requires-2
+    strike-requires
+    same-length
+    same-length-2
+    returns
     add-i
     loop-less
     loop-again
-    same-length
-    returns)
+    same-length-3
+    same-length-4
+    returns-2)

@@ -24,22 +24,22 @@ abbrev two : tie.Start → KindLine
 two start = lineAt (start .args .words .now) (start .args .other)
 
 mul-k : tie.Need-mul-k
-mul-k c = let pre = c .before .before .before .pre in record { fits = omega (arith, place-few (pre .0 .boards) (pre .1 .board) (pre .2 .board)) }
+mul-k c = let pre = c .before .before .before .before .pre in record { fits = omega (arith, place-few (pre .0 .ready .boards) (pre .2 .board) (pre .3 .board)) }
 
 add-k : tie.Need-add-k
-add-k c = let pre = c .before .before .before .before .pre in record { fits = omega (arith, place-few (pre .0 .boards) (pre .1 .board) (pre .2 .board)) }
+add-k c = let pre = c .before .before .before .before .before .pre in record { fits = omega (arith, place-few (pre .0 .ready .boards) (pre .2 .board) (pre .3 .board)) }
 
 slice-read-x : tie.Need-slice-read-x
-slice-read-x c = let pre = c .before .before .before .before .before .pre in ready-place (pre .0) (pre .1 .board) (pre .2 .board)
+slice-read-x c = let pre = c .before .before .before .before .before .before .pre in ready-place (pre .0 .ready) (pre .2 .board) (pre .3 .board)
 
 meet-requires : tie.Need-meet-requires
-meet-requires c κs = (c .before .before .before .before .before .pre .0 .table .small _, single-small same-small)
+meet-requires c κs = (c .before .before .before .before .before .before .pre .0 .ready .table .small _, single-small same-small)
 
 returns : tie.Need-returns
 returns c =
-    let start = c .before .before .before .before .before .before .before in
-    rule7-apart (start .args .v) (one start) (two start) (start .args .cells .now) (start .pre .0) (start .pre .1 .board) (start .pre .2 .board)
-    (sym (c .before .meet .ensures) ∙ c .if1 .taken)
+    let start = c .before .before .before .before .before .before .before .before in
+    let (table, marks, line, other, same) = start .pre in
+    rule7-apart (start .args .v) (one start) (two start) table marks (line .board) (other .board) (sym (c .before .meet .ensures) ∙ c .if1 .taken)
 
 mul-ways : tie.Need-mul-ways
 mul-ways c = search needs
@@ -67,66 +67,71 @@ part-others-end c = search needs
 
 ways-match-requires : tie.Need-ways-match-requires
 ways-match-requires c κs =
-    let pre = c .before .before .before .before .before .before .before .before .before .before .before .before .before .pre in
-    (pre .0, record { ways = pre .1 .boards; others = pre .2 .boards; same = pre .3 (c .before .if2 .left) })
+    let (table, marks, line, other, same) = c .before .before .before .before .before .before .before .before .before .before .before .before .before .before .pre in
+    (table .ready, record { ways = line .boards; others = other .boards; same = same (c .before .if2 .left) })
 
-narrow-requires : tie.Need-narrow-requires
+strike-requires : tie.Need-strike-requires
 unfolding relations
-narrow-requires c κs =
-    let pre = c .before .before .before .before .before .before .before .before .before .before .before .before .before .pre in
-    (ready-place (pre .0) (pre .1 .board) (pre .2 .board), pre .0 .table .small _, omega arith)
+strike-requires c κs = let (table, marks, line, other, same) = c .before .before .before .before .before .before .before .before .before .before .before .before .before .before .before .pre in (table, marks, line .board, other .board, omega arith)
 
 same-length : tie.Need-same-length
 same-length c = search needs
 
+same-length-2 : tie.Need-same-length-2
+same-length-2 c = search needs
+
 returns-2 : tie.Need-returns-2
 unfolding relations has setTo setOf complement
 returns-2 c =
-    let test = c .before .before .before .before .before .before .before .before .before in
-    let start = test .before .before .before .before .before .before .before in
-    rule7-struck (start .args .v) (one start) (two start) (start .args .cells .now) (start .pre .0) (start .pre .1 .board) (start .pre .2 .board)
-    (λ e. test .if1 .left (test .before .meet .ensures ∙ e))
+    let test = c .before .before .before .before .before .before .before .before .before .before .before .before in
+    let start = test .before .before .before .before .before .before .before .before in
+    let (table, marks, line, other, same) = start .pre in
+    rule7-struck (start .args .v) (one start) (two start) (start .args .cells .now) (start .args .marks .now) _ _ table marks (line .board) (other .board)
     (λ alike each. ⊎-elim (λ w. omega (arith, w .taken, alike .0)) (λ w. clash (cc (not-true (w .2 .result) (w .3 .taken), w .2 .ensures)))
-    (c .before .before .before .before .if2 .came)) (c .before .before .narrow .ensures)
+    (c .before .before .before .before .before .before .before .if2 .came)) _ (c .before .before .before .before .strike .ensures)
 
 -- where the codes are one and each two ways may be the same
 module _ (c : tie.Else3) where
   start : tie.Start
-  start = c .before .before .before .before .before .before .before .before .before .before .before .before .before .before .before
+  start = c .before .before .before .before .before .before .before .before .before .before .before .before .before .before .before .before
 
   -- so are the numbers of ways
   alike : Alike (one start) (two start)
   unfolding start
-  alike = let codes = c .before .before .before .if2 .left in (codes, start .pre .3 codes)
+  alike = let codes = c .before .before .before .if2 .left in (codes, start .pre .4 codes)
 
-same-length-2 : tie.Need-same-length-2
-same-length-2 c = search needs
+same-length-3 : tie.Need-same-length-3
+same-length-3 c = search needs
 
 returns-3 : tie.Need-returns-3
 unfolding start
 returns-3 c =
     let both = c .before in
-    let (ready, line, other, same) = start both .pre in
-    rule7-open (start both .args .v) (one (start both)) (two (start both)) (start both .args .cells .now) ready (line .board) (other .board) (alike both)
+    let (table, marks, line, other, same) = start both .pre in
+    rule7-open (start both .args .v) (one (start both)) (two (start both)) table marks (line .board) (other .board) (alike both)
     (both .before .ways-match .ensures) (not-false _ (both .if3 .left)) (c .if4 .taken)
 
 match-ways-requires : tie.Need-match-ways-requires
 unfolding start
 match-ways-requires c κs =
-    let both = c .before .before in
-    let (ready, line, other, same) = start both .pre in
-    (ready, record { ways = line .boards; others = other .boards; same = alike both .1 })
+    let both = c .before .before .before in
+    let (table, marks, line, other, same) = start both .pre in
+    (table, marks, record { ways = line .boards; others = other .boards; same = alike both .1 })
 
-same-length-3 : tie.Need-same-length-3
-same-length-3 c = search needs
+same-length-4 : tie.Need-same-length-4
+same-length-4 c = search needs
+
+same-length-5 : tie.Need-same-length-5
+same-length-5 c = search needs
 
 returns-4 : tie.Need-returns-4
 unfolding start
 returns-4 c =
-    let both = c .before .before .before .before .before in
-    let (ready, line, other, same) = start both .pre in
-    rule7-joined (start both .args .v) (one (start both)) (two (start both)) (start both .args .cells .now) ready (line .board) (other .board) (alike both)
-    (both .before .ways-match .ensures) (not-false _ (both .if3 .left)) (c .before .before .before .before .if4 .left) (c .before .before .match-ways .ensures)
+    let both = c .before .before .before .before .before .before .before .before in
+    let (table, marks, line, other, same) = start both .pre in
+    rule7-joined (start both .args .v) (one (start both)) (two (start both)) (start both .args .cells .now) (start both .args .marks .now) _ _ table marks
+    (line .board) (other .board) (alike both) (record { ways = line .boards; others = other .boards; same = alike both .1 }) (c .before .before .before .before .before .before .before .if4 .left)
+    (c .before .before .before .before .match-ways .result) (c .before .before .before .before .match-ways .ensures)
 
 pub rule7-spec : {M : Type 1} → statement M
 rule7-spec =
@@ -146,11 +151,13 @@ rule7-spec =
     part-others-start
     part-others-end
     ways-match-requires
-    narrow-requires
+    strike-requires
     same-length
-    returns-2
     same-length-2
+    returns-2
+    same-length-3
     returns-3
     match-ways-requires
-    same-length-3
+    same-length-4
+    same-length-5
     returns-4)

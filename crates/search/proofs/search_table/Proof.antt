@@ -15,33 +15,44 @@ pairs-room-requires c κs = search needs
 table-room-requires-2 : tie.Need-table-room-requires-2
 table-room-requires-2 c κs = search needs
 
+index-room-requires : tie.Need-index-room-requires
+index-room-requires c κs = search needs
+
+marks-room-requires : tie.Need-marks-room-requires
+marks-room-requires c κs = search needs
+
 array-borrow-prefix-first : tie.Need-array-borrow-prefix-first
-array-borrow-prefix-first c =
-    room-fits (c .before .before .before .before .before .before .before .pre .0 .ready) (c .before .before .before .table-room .ensures)
+array-borrow-prefix-first c = room-fits (c .before .before .before .before .before .before .before .before .before .pre .0 .ready) (c .before .before .before .before .before .table-room .ensures)
 
 slice-aggregate-search-in-room : tie.Need-slice-aggregate-search-in-room
-slice-aggregate-search-in-room c =
-    sym (room-taken (c .before .before .before .before .before .before .before .before .pre .0 .ready) (c .before .before .before .before .table-room .ensures))
+slice-aggregate-search-in-room c = sym (room-taken (c .before .before .before .before .before .before .before .before .before .before .pre .0 .ready) (c .before .before .before .before .before .before .table-room .ensures))
 
 slice-aggregate-search-in-room-2 : tie.Need-slice-aggregate-search-in-room-2
 slice-aggregate-search-in-room-2 c = search needs
 
 array-borrow-prefix-cells : tie.Need-array-borrow-prefix-cells
-array-borrow-prefix-cells c =
-    room-fits (c .before .before .before .before .before .before .before .before .before .pre .0 .ready) (c .before .before .before .table-room2 .ensures)
+array-borrow-prefix-cells c = room-fits (c .before .before .before .before .before .before .before .before .before .before .before .pre .0 .ready) (c .before .before .before .before .before .table-room2 .ensures)
 
 slice-aggregate-search-in-room-3 : tie.Need-slice-aggregate-search-in-room-3
-slice-aggregate-search-in-room-3 c =
-    sym (room-taken (c .before .before .before .before .before .before .before .before .before .before .pre .0 .ready) (c .before .before .before .before .table-room2 .ensures))
+slice-aggregate-search-in-room-3 c = sym (room-taken (c .before .before .before .before .before .before .before .before .before .before .before .before .pre .0 .ready) (c .before .before .before .before .before .before .table-room2 .ensures))
+
+slice-aggregate-search-in-room-4 : tie.Need-slice-aggregate-search-in-room-4
+slice-aggregate-search-in-room-4 c = search needs
+
+slice-aggregate-search-in-room-5 : tie.Need-slice-aggregate-search-in-room-5
+slice-aggregate-search-in-room-5 c = search needs
 
 search-in-room-requires : tie.Need-search-in-room-requires
 search-in-room-requires c κs =
+    let pre = c .before .before .before .before .before .before .before .before .before .before .before .before .before .before .pre in
     record {
-      admitted = c .before .before .before .before .before .before .before .before .before .before .pre .0;
-      order = c .before .before .before .before .before .before .before .before .before .before .pre .1;
-      start = room-taken (c .before .before .before .before .before .before .before .before .before .before .pre .0 .ready) (c .before .before .before .before .before .before .table-room .ensures);
-      bytes = room-bytes (c .before .before .before .before .before .before .before .before .before .before .pre .0 .ready .boards) (c .before .before .before .before .before .pairs-room .ensures);
-      cells = room-taken (c .before .before .before .before .before .before .before .before .before .before .pre .0 .ready) (c .before .before .before .before .table-room2 .ensures);
+      admitted = pre .0;
+      order = pre .1;
+      start = room-taken (pre .0 .ready) (c .before .before .before .before .before .before .before .before .before .before .table-room .ensures);
+      bytes = room-bytes (pre .0 .ready .boards) (c .before .before .before .before .before .before .before .before .before .pairs-room .ensures);
+      cells = room-taken (pre .0 .ready) (c .before .before .before .before .before .before .before .before .table-room2 .ensures);
+      index = c .before .before .before .before .before .before .before .index-room .ensures;
+      list = c .before .before .before .before .before .before .marks-room .ensures;
     }
 
 same-length : tie.Need-same-length
@@ -57,11 +68,15 @@ search-table-spec =
     table-room-requires
     pairs-room-requires
     table-room-requires-2
+    index-room-requires
+    marks-room-requires
     array-borrow-prefix-first
     slice-aggregate-search-in-room
     slice-aggregate-search-in-room-2
     array-borrow-prefix-cells
     slice-aggregate-search-in-room-3
+    slice-aggregate-search-in-room-4
+    slice-aggregate-search-in-room-5
     search-in-room-requires
     same-length
     returns)

@@ -11,7 +11,7 @@ use Rattle.rules.specs.Descriptions.{refused, relationLine}
 use Rattle.rules.proofs.PlacedLines.{placing-relation}
 use Rattle.rules.proofs.Lines.{relation-suffix}
 use Rattle.rules.proofs.Walks.{Walk, walk-start}
-use Rattle.lines.proofs.Fronts.{relation-line-out, relation-refused-out}
+use Rattle.lines.proofs.Fronts.{told-rest-out, told-refused-out}
 use Rattle.sheet.proofs.Filled.{found-place, found-refused, found-next, found-end}
 use Rattle.sheet.proofs.sections.relation_section.Statement.{statement}
 use Rattle.sheet.proofs.sections.relation_section.Tie as tie
@@ -25,20 +25,20 @@ abbrev μ-loop : tie.MeasureT-loop
 loop-holds : tie.Need-loop-holds Inv-loop μ-loop
 loop-holds c = walk-start _ _ _
 
-mul-relation-line : tie.Need-mul-relation-line Inv-loop μ-loop
-mul-relation-line c = search needs
+mul-relation-told : tie.Need-mul-relation-told Inv-loop μ-loop
+mul-relation-told c = search needs
 
-sub-relation-line : tie.Need-sub-relation-line Inv-loop μ-loop
-sub-relation-line c = c .before .loop .inv .within
+sub-relation-told : tie.Need-sub-relation-told Inv-loop μ-loop
+sub-relation-told c = c .before .loop .inv .within
 
-part-relation-line-start : tie.Need-part-relation-line-start Inv-loop μ-loop
-part-relation-line-start c = search needs
+part-relation-told-start : tie.Need-part-relation-told-start Inv-loop μ-loop
+part-relation-told-start c = search needs
 
-part-relation-line-end : tie.Need-part-relation-line-end Inv-loop μ-loop
-part-relation-line-end c = search needs
+part-relation-told-end : tie.Need-part-relation-told-end Inv-loop μ-loop
+part-relation-told-end c = search needs
 
-relation-line-requires : tie.Need-relation-line-requires Inv-loop μ-loop
-relation-line-requires c κs = search needs
+relation-told-requires : tie.Need-relation-told-requires Inv-loop μ-loop
+relation-told-requires c κs = search needs
 
 enum-known-rest : tie.Need-enum-known-rest Inv-loop μ-loop
 enum-known-rest c = search needs
@@ -55,7 +55,7 @@ module _ (c : tie.After-known-told2 Inv-loop μ-loop) where
   faulty = let words = test .before .before .before .args .words .now in take (length words - test .before .loop .at) (drop (test .before .loop .at) words)
 
   refused-line : (n k : ℕ) × (relationLine (test .before .before .before .args .v) faulty ≡ refused n k) × (c .before .r .given .0 .0 ≡ refusal n k)
-  refused-line = relation-refused-out _ _ (sym (c .before .r .given .1) ∙ c .before .before .before .relation-line .ensures)
+  refused-line = told-refused-out _ _ (sym (c .before .r .given .1) ∙ c .before .before .before .relation-told .ensures)
 
 later-requires : tie.Need-later-requires Inv-loop μ-loop
 later-requires c κs =
@@ -70,7 +70,7 @@ sub-at c =
     let test = c .before .before .before .before .before in
     let args = test .before .before .before .args in
     found-next (test .before .loop .inv) (test .loop-test .taken) (relation-suffix (args .v))
-    (relation-line-out _ _ _ (sym (c .before .rest .given .1) ∙ c .before .before .before .relation-line .ensures)) .0
+    (told-rest-out _ _ (sym (c .before .rest .given .1) ∙ c .before .before .before .relation-told .ensures)) .0
 
 sub-left : tie.Need-sub-left Inv-loop μ-loop
 sub-left c = omega arith
@@ -83,7 +83,7 @@ loop-again c =
     let test = c .before .before .before .before .before in
     let args = test .before .before .before .args in
     found-next (test .before .loop .inv) (test .loop-test .taken) (relation-suffix (args .v))
-    (relation-line-out _ _ _ (sym (c .before .rest .given .1) ∙ c .before .before .before .relation-line .ensures)) .1
+    (told-rest-out _ _ (sym (c .before .rest .given .1) ∙ c .before .before .before .relation-told .ensures)) .1
 
 sub-ended : tie.Need-sub-ended Inv-loop μ-loop
 sub-ended c = c .before .loop .inv .within
@@ -101,11 +101,11 @@ relation-section-spec =
     Inv-loop
     μ-loop
     loop-holds
-    mul-relation-line
-    sub-relation-line
-    part-relation-line-start
-    part-relation-line-end
-    relation-line-requires
+    mul-relation-told
+    sub-relation-told
+    part-relation-told-start
+    part-relation-told-end
+    relation-told-requires
     enum-known-rest
     enum-known-r
     later-requires

@@ -1,0 +1,21 @@
+-- Sets of numbers below the bits of a word, as the number that has their binary digits. Assumes nothing.
+use mathlib.Core.Bool.{true, false}
+use Prim.Native.Nat.{ℕ, _+_, _-_, _^_}
+use lib.Count.{trailingZeros}
+use Rattle.rules.specs.Relations.{has}
+
+-- a set holds numbers below this one
+abbrev pub wordBits : ℕ
+wordBits = 32
+
+-- x with i too
+unfoldable pub added : ℕ → ℕ → ℕ
+added x i = elim (has x i) [ true ↦ x | false ↦ x + 2 ^ i ]
+
+-- x without i, which it has
+unfoldable pub removed : ℕ → ℕ → ℕ
+removed x i = x - 2 ^ i
+
+-- the least number in x, wordBits if there is none
+unfoldable pub lowest : ℕ → ℕ
+lowest x = trailingZeros wordBits x

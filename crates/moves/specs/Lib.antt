@@ -1,0 +1,3 @@
+-- Which cells a rule reads, the list of pairs that lost something, and what work that keeps the list makes of a table.
+pub mod Watches
+pub mod Moves

@@ -21,10 +21,11 @@ SEED = 1
 fuzz:
 	@sh tools/fuzz.sh $(N) $(SEED)
 
-# make bench: how long openings, closings, searches and the text calls take beside plain C versions of the same methods, and that both answer the same.
+# make bench: how long openings, closings, searches and the text calls take beside plain C versions of the same methods, the first three beside sweeps too, and that
+# all answer the same; and how the costs of closings and searches grow with the number of boards.
 bench: lib
 	@sh bench/run.sh
 
-# make count: how many instructions these take, which no load of the machine changes.
+# make count: how many instructions the calls take, which no load of the machine changes.
 count: lib
 	@sh bench/count.sh

@@ -1,4 +1,4 @@
-/* That the product and plain C answer each sheet the same, leave the same, and answer as the sheet's group says. */
+/* That all versions answer each sheet the same, leave the same, and answer as the sheet's group says. */
 #include <stdio.h>
 #include <stdlib.h>
 #include <string.h>
@@ -22,7 +22,7 @@ static void *left(const struct group *g, size_t i)
     return (uint8_t *)lefts + i * g->lent;
 }
 
-/* ---- both */
+/* ---- all versions */
 
 /* Ends the program, with what is wrong. */
 static _Noreturn void fail(const struct group *g, size_t i, const char *what)
@@ -31,31 +31,48 @@ static _Noreturn void fail(const struct group *g, size_t i, const char *what)
     exit(1);
 }
 
-/* The product and plain C have answered a sheet: ends the program unless they say the same and leave the same. */
-static void compare(const struct group *g, size_t i, uint64_t product, const uint8_t *product_left, uint64_t plain, const uint8_t *plain_left)
+/* What a version answers and leaves. */
+struct outcome {
+    const char *name;
+    uint64_t answer;
+    const uint8_t *left;
+};
+
+/* The product and another version have answered a sheet: ends the program unless they say the same and leave the same. */
+static void compare(const struct group *g, size_t i, const struct outcome *product, const struct outcome *other)
 {
-    if (product != plain) {
-        printf("the product answers number %u count %u, plain C number %u count %u\n", talung_number(product), talung_count(product), talung_number(plain),
-               talung_count(plain));
+    if (product->answer != other->answer) {
+        printf("the product answers number %u count %u, %s number %u count %u\n", talung_number(product->answer), talung_count(product->answer), other->name,
+               talung_number(other->answer), talung_count(other->answer));
         fail(g, i, "the answers differ");
     }
     for (size_t k = 0; k < g->lent; k++) {
-        if (product_left[k] != plain_left[k]) {
-            printf("the product leaves %u at byte %lu, plain C %u\n", product_left[k], (unsigned long)k, plain_left[k]);
+        if (product->left[k] != other->left[k]) {
+            printf("the product leaves %u at byte %lu, %s %u\n", product->left[k], (unsigned long)k, other->name, other->left[k]);
             fail(g, i, "what they leave differs");
         }
     }
 }
 
-/* Has both do the group's task with a sheet, which is the i-th one or made of it. Answers what they do, and leaves what they leave. */
+/* Has all versions do a task with a sheet, which is the i-th one of the group or made of it. Answers what they do, and leaves what they leave. */
+static uint64_t answer_task(const struct group *g, size_t i, enum task task, const struct sheet *s, void *lent)
+{
+    static const char *const names[VERSIONS] = {"", "plain C", "plain C by sweeps"};
+    uint16_t room[MOST_ROOM / 2];
+    lend(g, s, lent);
+    struct outcome product = {"", calls[PRODUCT][task](s, lent), lent};
+    for (size_t version = PLAIN; version < versions_of(task); version++) {
+        lend(g, s, room);
+        struct outcome other = {names[version], calls[version][task](s, room), (uint8_t *)room};
+        compare(g, i, &product, &other);
+    }
+    return product.answer;
+}
+
+/* Has them do the group's own task with it. */
 static uint64_t answer_sheet(const struct group *g, size_t i, const struct sheet *s, void *lent)
 {
-    uint16_t other[MOST_ROOM / 2];
-    lend(g, s, lent);
-    lend(g, s, other);
-    uint64_t answer = by_plain[g->task](s, lent);
-    compare(g, i, by_product[g->task](s, other), (uint8_t *)other, answer, lent);
-    return answer;
+    return answer_task(g, i, g->task, s, lent);
 }
 
 void answer_group(const struct group *g)
@@ -87,19 +104,16 @@ static void expect(const struct group *g, size_t i, uint64_t answer, unsigned nu
 
 /* ---- openings */
 
-/* Has both close the full table under the sheet's description. Answers what they do, and leaves their table. */
+/* Has all versions close the full table under the sheet's description. Answers what they do, and leaves their table. */
 static uint64_t close_full(const struct group *g, size_t i, const struct sheet *s, uint8_t *table)
 {
-    uint8_t other[MOST_TABLE];
-    fill_table(table);
-    fill_table(other);
-    uint64_t answer = plain_close(s->words, s->n, table, s->m);
-    compare(g, i, talung_close(s->words, s->n, other, s->m), other, answer, table);
-    return answer;
+    struct sheet full = *s;
+    fill_table(full.table);
+    return answer_task(g, i, CLOSE, &full, table);
 }
 
-/* Has both open the sheet's table. Ends the program unless they answer what a closing of the full table does, and leave the same cells; the rest of the table, or
-   all of it where they refuse, must be as it came. */
+/* Has all versions open the sheet's table. Ends the program unless they answer what a closing of the full table does, and leave the same cells; the rest of the
+   table, or all of it where they refuse, must be as it came. */
 static void check_opening(const struct group *g, size_t i, const struct sheet *s)
 {
     uint8_t table[MOST_TABLE];
@@ -115,7 +129,7 @@ static void check_opening(const struct group *g, size_t i, const struct sheet *s
 
 /* ---- spoilt descriptions */
 
-/* Has both do the group's task with a description that has another word at this place. */
+/* Has all versions do the group's task with a description that has another word at this place. */
 static void compare_word(const struct group *g, size_t i, struct sheet *s, size_t place, uint16_t word)
 {
     uint16_t lent[MOST_ROOM / 2];
@@ -128,8 +142,9 @@ static void compare_word(const struct group *g, size_t i, struct sheet *s, size_
     s->words[place] = was;
 }
 
-/* Has both do it, if the description is short or the first of its group, with each of its words in turn one larger, one smaller and the largest that there is; with
-   each of them as the one where the kind lines begin; and cut before each of them, with the total that it has and with one that is right. A search makes no try. */
+/* Has them do it, if the description is short or the first of its group, with each of its words in turn one larger, one smaller and the largest that there is;
+   with each of them as the one where the kind lines begin; and cut before each of them, with the total that it has and with one that is right. A search makes no
+   try. */
 static void compare_spoilt(const struct group *g, size_t i)
 {
     struct sheet s = g->sheets[i];
@@ -179,16 +194,12 @@ static void expect_arrangement(const struct group *g, size_t i, const uint8_t *t
         fail(g, i, "the arrangement found is not the least");
 }
 
-/* Searches a sheet with this budget by both, and leaves their table. */
+/* Has all versions search a sheet with this budget, and leaves their table. */
 static uint64_t search(const struct group *g, size_t i, uint32_t budget, uint8_t *table)
 {
-    const struct sheet *s = &g->sheets[i];
-    uint8_t other[MOST_TABLE];
-    lend(g, s, table);
-    lend(g, s, other);
-    uint64_t answer = plain_search(s->words, s->n, table, s->m, budget);
-    compare(g, i, talung_search(s->words, s->n, other, s->m, budget), other, answer, table);
-    return answer;
+    struct sheet s = g->sheets[i];
+    s.budget = budget;
+    return answer_task(g, i, SEARCH, &s, table);
 }
 
 /* Checks that the writer refuses a description that closing refuses, at the same place. */
@@ -306,7 +317,7 @@ static void check_room(const struct group *g, size_t i, size_t length)
         expect_made(g, i, answer, room);
 }
 
-/* Has both read a sheet's text with other bytes in place of those from one place to another. */
+/* Has both versions read a sheet's text with other bytes in place of those from one place to another. */
 static void compare_text(const struct group *g, size_t i, size_t from, size_t to, const char *bytes, size_t n)
 {
     static char text[MOST_SPOILT];
@@ -373,7 +384,7 @@ static void compare_lines(const struct group *g, size_t i)
     }
 }
 
-/* Checks a sheet that is read or written, in its own room and in others; and compares what both make of a short one that is spoilt. */
+/* Checks a sheet that is read or written, in its own room and in others; and compares what they make of a short one that is spoilt. */
 static void check_text(const struct group *g, size_t i)
 {
     const struct sheet *s = &g->sheets[i];

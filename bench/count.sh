@@ -17,18 +17,31 @@ compile_parts
 program=$built/bench-0
 link_bench "$program" 0
 rm -f "$built"/counts*
-# valgrind writes a file after each group's calls, numbered from 1: the product's of the first group, plain C's of it, and so on.
+# valgrind writes a file after each group's calls, numbered from 1: the product's of the first group, plain C's of it, those by sweeps if it has them, and so on.
 under="valgrind -q --tool=callgrind --collect-atstart=no --toggle-collect=counted --dump-after=counted --callgrind-out-file=$built/counts"
 run_program "$program" count >"$built/counted"
 
-printf '%-14s %6s %12s %12s %8s\n' group sheets product 'plain C' ratio
-i=0
+files=0
+next_count() { # leaves in count what the next file counts
+    files=$((files + 1))
+    count=$(sed -n 's/^totals: //p' "$built/counts.$files")
+}
+
 while IFS= read -r line; do
-    product=$(sed -n 's/^totals: //p' "$built/counts.$((i + 1))")
-    plain=$(sed -n 's/^totals: //p' "$built/counts.$((i + 2))")
-    i=$((i + 2))
-    sheets=${line##* }
-    awk -v line="$line" -v n="$sheets" -v product="$product" -v plain="$plain" 'BEGIN {
-        printf "%s %12.0f %12.0f %8.3f\n", line, product / n, plain / n, product / plain
+    next_count
+    product=$count
+    next_count
+    plain=$count
+    sweeps=-
+    if [ "${line##* }" -eq 3 ]; then
+        next_count
+        sweeps=$count
+    fi
+    awk -v line="${line% *}" -v product="$product" -v plain="$plain" -v sweeps="$sweeps" 'BEGIN {
+        n = substr(line, 22)
+        printf "%s %.1f %.1f ", line, product / n, plain / n
+        if (sweeps == "-") printf "- %.6f - -\n", product / plain
+        else printf "%.1f %.6f %.6f %.6f\n", sweeps / n, product / plain, sweeps / product, sweeps / plain
     }'
-done <"$built/counted"
+done <"$built/counted" >"$built/counts-of-groups"
+awk -v places=0 -v digits=3 -f bench/middle.awk -f bench/table.awk "$built/counts-of-groups"

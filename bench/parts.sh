@@ -13,18 +13,33 @@ compile() { # FILE OBJECT WORDS...
 }
 
 compile_parts() {
-    compile plain.c plain.o -O3
-    compile plain_search.c plain_search.o -O3
-    compile plain_text.c plain_text.o -O3
     parts=''
-    for part in driver checks calls sheets openings searches texts sites; do
+    for part in driver measure growth checks calls sheets openings searches texts grown sites; do
         compile "$part.c" "$part.o" -O2
         parts="$parts $built/$part.o"
     done
+    versions=''
+    counting=''
+    for version in list plain; do
+        compile "$version.c" "$version.o" -O3
+        versions="$versions $built/$version.o"
+        compile "$version.c" "counting-$version.o" -O3 -DCOUNT_TRIPLES
+        counting="$counting $built/counting-$version.o"
+    done
+    for version in list_search plain_search plain_read plain_text; do
+        compile "$version.c" "$version.o" -O3
+        versions="$versions $built/$version.o"
+        counting="$counting $built/$version.o"
+    done
 }
 
-link_bench() { # PROGRAM SHIFT: with the code of both versions moved on by SHIFT bytes
+link_bench() { # PROGRAM SHIFT: with the code of all versions moved on by SHIFT bytes
     compile shift.S shift.o "-DSHIFT=$2"
     # shellcheck disable=SC2086
-    link_program "$1" $parts "$built/shift.o" "$built/plain.o" "$built/plain_search.o" "$built/plain_text.o" "$library"
+    link_program "$1" $parts "$built/shift.o" $versions "$library"
+}
+
+link_counting() { # PROGRAM: whose plain versions count the triples that they look at
+    # shellcheck disable=SC2086
+    link_program "$1" $parts $counting "$library"
 }

@@ -1,4 +1,4 @@
-/* What the calls in plain C share: reading a description, taking it with a table, and closing a working copy. */
+/* What the calls in plain C share: limits, sets of relations, answers, reading a description alone or with a table, and closing a working copy by sweeps. */
 #ifndef PLAIN_PARTS_H
 #define PLAIN_PARTS_H
 
@@ -13,6 +13,20 @@ enum {
     MOST_WORDS = 15,
     MOST_WAYS = 8
 };
+
+/* Sets of relations: same board, above, below, side, and some of them together. */
+enum {
+    E = 1,
+    A = 2,
+    B = 4,
+    S = 8,
+    AT_OR_ABOVE = 3,
+    NOT_ABOVE = 13,
+    NOT_SAME = 14
+};
+
+/* Each set the other way round: A and B exchanged. */
+static const uint8_t converses[16] = {0, 1, 4, 5, 2, 3, 6, 7, 8, 9, 12, 13, 10, 11, 14, 15};
 
 /* An answer of this number and count. */
 static inline uint64_t answer(uint32_t number, uint32_t count)
@@ -46,6 +60,14 @@ static inline uint64_t refuse_at(struct refusal found)
     return answer((uint32_t)found.number, (uint32_t)found.place);
 }
 
+/* A triple is looked at. It is counted in objects that are compiled to count; in all others, which are those that are timed, this is nothing. */
+static inline void look(void)
+{
+#ifdef COUNT_TRIPLES
+    triples++;
+#endif
+}
+
 struct header {
     size_t boards;
     size_t lines;
@@ -60,9 +82,10 @@ struct refusal read_description(const uint16_t *words, size_t n, struct header *
 struct refusal take(const uint16_t *words, size_t n, const uint8_t *table, size_t m, struct header *h, uint8_t *cells);
 
 /* Closes the cells under the description. Answers the number struck, or -1 if a cell is empty. */
-int close_cells(const struct header *h, const uint16_t *words, uint8_t *cells);
+typedef int closing(const struct header *h, const uint16_t *words, uint8_t *cells);
 
-/* The same of cells that lie inside a closed table, in which the rules whose bounds stay strike nothing. */
-int close_again(const struct header *h, const uint16_t *words, uint8_t *cells);
+/* By sweeps; and the same of cells that lie inside a closed table, in which the rules whose bounds stay strike nothing. */
+closing close_cells;
+closing close_again;
 
 #endif

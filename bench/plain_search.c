@@ -1,151 +1,24 @@
-/* The search in plain C, by the product's method: the same tries in the same order, and one table to go back to, not one for each choice. */
-#include "plain_parts.h"
+/* The search in plain C, with closings by sweeps. */
+#include "plain_tries.h"
 
-enum {
-    RELATIONS = 4,
-    MOST_PAIRS = TALUNG_MOST_BOARDS * (TALUNG_MOST_BOARDS - 1) / 2
-};
-
-/* A pair of boards p < q, and how many such pairs come before it. After the last pair comes one whose q is the number of boards. */
-struct pair {
-    size_t p;
-    size_t q;
-    size_t index;
-};
-
-/* The lent table closed, the table at hand inside it, and for each pair that the search has passed or stands at the relations that it may still choose
-   there, the one chosen being the first of them in the order. */
-struct state {
-    const struct header *header;
-    const uint16_t *words;
-    const uint8_t *order;
-    uint8_t first[TALUNG_MOST_CELLS];
-    uint8_t cells[TALUNG_MOST_CELLS];
-    uint8_t choices[MOST_PAIRS];
-};
-
-static const struct pair start = {0, 1, 0};
-
-static struct pair pair_after(size_t v, struct pair at)
+static int sweep_first(struct state *s)
 {
-    if (at.q + 1 < v)
-        return (struct pair){at.p, at.q + 1, at.index + 1};
-    return (struct pair){at.p + 1, at.p + 2, at.index + 1};
+    return close_cells(s->header, s->words, s->first) >= 0;
 }
 
-static struct pair pair_before(size_t v, struct pair at)
+static void put_chosen(struct state *s, struct pair at)
 {
-    if (at.p + 1 < at.q)
-        return (struct pair){at.p, at.q - 1, at.index - 1};
-    return (struct pair){at.p - 1, v - 1, at.index - 1};
+    s->cells[s->header->boards * at.p + at.q] = chosen(s, at);
 }
 
-/* The first relation of the order that the set has, as a set; none of an empty set. */
-static uint8_t pick(const uint8_t *order, uint8_t set)
+static int sweep_again(struct state *s)
 {
-    for (size_t i = 0; i < RELATIONS; i++) {
-        uint8_t relation = 1 << order[i];
-        if (set & relation)
-            return relation;
-    }
-    return 0;
-}
-
-/* The set without that relation. */
-static uint8_t unpicked(const uint8_t *order, uint8_t set)
-{
-    return set & ~pick(order, set);
-}
-
-static int is_single(uint8_t set)
-{
-    return (set & (set - 1)) == 0;
-}
-
-/* Passes the pairs from this one on whose cells are single. Answers the pair of the next try, or the one after the last. */
-static struct pair next_open(struct state *s, struct pair at)
-{
-    size_t v = s->header->boards;
-    for (; at.q < v; at = pair_after(v, at)) {
-        uint8_t set = s->cells[v * at.p + at.q];
-        s->choices[at.index] = set;
-        if (!is_single(set))
-            break;
-    }
-    return at;
-}
-
-/* Tries the relation that is chosen at this pair. Answers whether the table at hand is closed then, and not contradictory. */
-static int try_at(struct state *s, struct pair at)
-{
-    s->cells[s->header->boards * at.p + at.q] = pick(s->order, s->choices[at.index]);
     return close_again(s->header, s->words, s->cells) >= 0;
-}
-
-/* Goes back from a pair whose try has failed to the last one with a relation left to choose. Answers whether there is one. */
-static int last_open(struct state *s, struct pair *at)
-{
-    for (;;) {
-        uint8_t *choice = &s->choices[at->index];
-        *choice = unpicked(s->order, *choice);
-        if (*choice)
-            return 1;
-        if (at->index == 0)
-            return 0;
-        *at = pair_before(s->header->boards, *at);
-    }
-}
-
-/* Makes the table at hand anew: the first one, with what is chosen at the pairs before this one. */
-static void rebuild(struct state *s, struct pair to)
-{
-    size_t v = s->header->boards;
-    for (size_t i = 0; i < v * v; i++)
-        s->cells[i] = s->first[i];
-    for (struct pair at = start; at.index < to.index; at = pair_after(v, at))
-        s->cells[v * at.p + at.q] = pick(s->order, s->choices[at.index]);
-}
-
-/* Searches inside the table at hand, which is the first one. After success it is the arrangement. */
-static uint64_t search(struct state *s, uint32_t budget)
-{
-    size_t v = s->header->boards;
-    uint32_t tries = 0;
-    struct pair at = next_open(s, start);
-    while (at.q < v) {
-        if (tries == budget)
-            return answer(TALUNG_RAN_OUT, budget);
-        tries++;
-        if (try_at(s, at)) {
-            at = next_open(s, pair_after(v, at));
-            continue;
-        }
-        if (!last_open(s, &at))
-            return answer(TALUNG_NOWHERE, tries);
-        rebuild(s, at);
-    }
-    return answer(TALUNG_OK, tries);
 }
 
 uint64_t plain_search(const uint16_t *words, size_t n, uint8_t *table, size_t m, uint32_t budget)
 {
-    static const uint8_t order[RELATIONS] = {0, 1, 2, 3};
-    struct header h;
+    static const struct method by_sweeps = {sweep_first, copy_first, put_chosen, sweep_again};
     struct state s;
-    struct refusal refused = take(words, n, table, m, &h, s.first);
-    if (refused.number)
-        return refuse_at(refused);
-    if (close_cells(&h, words, s.first) < 0)
-        return answer(TALUNG_NOWHERE, 0);
-    s.header = &h;
-    s.words = words;
-    s.order = order;
-    for (size_t i = 0; i < m; i++)
-        s.cells[i] = s.first[i];
-    uint64_t found = search(&s, budget);
-    if (talung_number(found) == TALUNG_OK) {
-        for (size_t i = 0; i < m; i++)
-            table[i] = s.cells[i];
-    }
-    return found;
+    return search_by(&by_sweeps, &s, words, n, table, m, budget);
 }

@@ -90,8 +90,7 @@ static int finds_after(const struct sheet *s, size_t vain)
 
 /* ---- sheets that have an arrangement */
 
-/* Few lines, taken off a site. There are three kinds: relation lines, kind lines, both. */
-static void make_loose(struct sheet *s, size_t boards, size_t kind)
+void make_loose(struct sheet *s, size_t boards, size_t kind)
 {
     struct site site;
     grow(&site, boards, between(boards / 2, boards));
@@ -114,17 +113,16 @@ static void make_sited_pairs(struct sheet *s, size_t boards, size_t tenths, size
     add_panels(s, &site, panels);
 }
 
-/* Relation lines on many pairs, off no site, that have an arrangement, though some tries are in vain. */
+/* Relation lines on many pairs, off no site, that have an arrangement, though some tries are in vain: half as many as boards, and at least four from 8 boards on. */
 static void make_detours(struct sheet *s, size_t boards)
 {
     do {
         begin(s, boards);
         add_pairs(s, 0, between(5, 8));
-    } while (!finds_after(s, 4));
+    } while (!finds_after(s, boards < 8 ? boards / 2 : 4));
 }
 
-/* Many lines. There are three kinds: a relation line on each pair, taken off a site; on half of the pairs, with kind lines; and with tries in vain. */
-static void make_tight(struct sheet *s, size_t boards, size_t kind)
+void make_tight(struct sheet *s, size_t boards, size_t kind)
 {
     switch (kind) {
     case 0: make_sited_pairs(s, boards, 10, 0); break;

@@ -4,62 +4,60 @@
 
 /* ---- sheets that close */
 
-/* 16 boards and nothing said of them. */
-static void make_full(struct sheet *s)
+/* Nothing is said of the boards. */
+static void make_full(struct sheet *s, size_t boards)
 {
-    begin(s, 16);
+    begin(s, boards);
 }
 
-/* Few relation lines. */
-static void make_sparse(struct sheet *s)
+void make_sparse(struct sheet *s, size_t boards)
 {
     struct site site;
-    grow(&site, 16, between(6, 16));
-    begin(s, 16);
-    add_holding_lines(s, &site, between(8, 16), 5);
+    grow(&site, boards, between(3 * boards / 8, boards));
+    begin(s, boards);
+    add_holding_lines(s, &site, between(boards / 2, boards), 5);
     keep_site(s, &site);
 }
 
 /* As many relation lines as there may be. */
-static void make_dense(struct sheet *s)
+static void make_dense(struct sheet *s, size_t boards)
 {
     struct site site;
-    grow(&site, 16, between(6, 16));
-    begin(s, 16);
+    grow(&site, boards, between(3 * boards / 8, boards));
+    begin(s, boards);
     add_holding_lines(s, &site, MOST_LINES, MOST_WORDS);
     keep_site(s, &site);
 }
 
-/* Kind lines on boards drawn, some of them on one board or on one place. */
-static void make_panels(struct sheet *s)
+void make_panels(struct sheet *s, size_t boards)
 {
     struct site site;
-    grow(&site, 16, between(6, 16));
-    begin(s, 16);
-    add_holding_lines(s, &site, between(4, 32), 7);
-    size_t kinds = between(4, MOST_KINDS);
+    grow(&site, boards, between(3 * boards / 8, boards));
+    begin(s, boards);
+    add_holding_lines(s, &site, between(boards / 4, 2 * boards), 7);
+    size_t kinds = between(boards / 4, boards);
     for (size_t i = 0; i < kinds; i++)
-        add_panel(s, &site, below(16));
+        add_panel(s, &site, below(boards));
     keep_site(s, &site);
 }
 
 /* As many kind lines as there may be, of one code and one number of ways. */
-static void make_same_panels(struct sheet *s)
+static void make_same_panels(struct sheet *s, size_t boards)
 {
     struct site site;
-    grow_alike(&site, 16, between(1, MOST_WAYS));
-    begin(s, 16);
+    grow_alike(&site, boards, between(1, MOST_WAYS));
+    begin(s, boards);
     add_holding_lines(s, &site, between(0, 8), 3);
     for (size_t i = 0; i < MOST_KINDS; i++)
         add_panel_with_ways(s, &site);
     keep_site(s, &site);
 }
 
-/* Up to 6 boards, few lines, and a table of which something is known. */
-static void make_small(struct sheet *s)
+/* Up to so many boards, few lines, and a table of which something is known. */
+static void make_small(struct sheet *s, size_t most)
 {
     struct site site;
-    size_t boards = between(1, 6);
+    size_t boards = between(1, most);
     grow(&site, boards, between(1, boards));
     begin(s, boards);
     add_holding_lines(s, &site, between(0, 4), 5);
@@ -119,10 +117,10 @@ static int clashes(struct sheet *s)
 static void make_failed_try(struct sheet *s)
 {
     size_t tries = 0;
-    make_panels(s);
+    make_panels(s, 16);
     while (!clashes(s)) {
         if (++tries > 1000) {
-            make_panels(s);
+            make_panels(s, 16);
             tries = 0;
             continue;
         }
@@ -312,14 +310,14 @@ static void make_refused(struct sheet *s, size_t kind)
 
 /* ---- the groups */
 
-static void fill(struct group *g, const char *name, size_t count, void (*make)(struct sheet *))
+static void fill(struct group *g, const char *name, size_t count, size_t boards, void (*make)(struct sheet *, size_t))
 {
     g->name = name;
     g->task = CLOSE;
     g->count = count;
     g->lent = MOST_TABLE;
     for (size_t i = 0; i < count; i++)
-        make(&g->sheets[i]);
+        make(&g->sheets[i], boards);
 }
 
 /* With as many sheets of each kind. */
@@ -336,12 +334,12 @@ static void fill_kinds(struct group *g, const char *name, size_t count, size_t k
 void make_closed_groups(struct group groups[CLOSED_GROUPS])
 {
     seed(1);
-    fill(&groups[0], "full 16", 1, make_full);
-    fill(&groups[1], "sparse", 40, make_sparse);
-    fill(&groups[2], "dense", 40, make_dense);
-    fill(&groups[3], "panels", 40, make_panels);
-    fill(&groups[4], "same panels", 40, make_same_panels);
-    fill(&groups[5], "small", 40, make_small);
+    fill(&groups[0], "full 16", 1, 16, make_full);
+    fill(&groups[1], "sparse", 40, 16, make_sparse);
+    fill(&groups[2], "dense", 40, 16, make_dense);
+    fill(&groups[3], "panels", 40, 16, make_panels);
+    fill(&groups[4], "same panels", 40, 16, make_same_panels);
+    fill(&groups[5], "small", 40, 6, make_small);
     fill_kinds(&groups[6], "contradictory", 40, 8, make_contradictory);
     fill_kinds(&groups[7], "refused", 56, 56, make_refused);
 }

@@ -6,6 +6,7 @@
 
 void *memcpy(void *to, const void *from, size_t n);
 int memcmp(const void *one, const void *other, size_t n);
+int strcmp(const char *one, const char *other);
 size_t strlen(const char *text);
 
 #endif

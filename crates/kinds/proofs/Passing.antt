@@ -1,7 +1,7 @@
 -- A walk along the lines of a section strikes by the rules of each line: it begins with none of them, takes in each line that is met, and after the last
 -- has struck by the rules of all that the section means. Assumes nothing.
 use mathlib.Core.Path.{_≡_, sym, ap, _∙_, subst}
-use mathlib.Core.List.{List, [], _∷_, _++_, flatMap, append-nil, List·Memᴰ, List·Memᴰ·head, Memᴰ·append-right}
+use mathlib.Core.List.{List, [], _∷_, _++_, flatMap, append-nil}
 use Prim.Native.Nat.{ℕ, zero, suc, _+_, _-_, _≤_, _<_}
 use native.Mathlib.Omega.{arith}
 use lib.ListN.{length, drop}
@@ -12,8 +12,8 @@ use Rattle.rules.proofs.Parts.{Suffix}
 use Rattle.rules.proofs.Readings.{never}
 use Rattle.rules.proofs.Lines.{kind-suffix}
 use Rattle.rules.proofs.Walks.{section-met, Walk, walk-start, walk-none, walk-next, walk-passed, walk-lines}
-use Rattle.passes.specs.Passes.{Ready, Kept, Pass, Quiet, Once}
-use Rattle.passes.proofs.Passes.{pass-from, pass-start, pass-more, once-from, once-start, once-more, ready-kept}
+use Rattle.passes.specs.Passes.{Ready, Kept, Once}
+use Rattle.passes.proofs.Passes.{once-from, once-start, once-more, ready-kept}
 use Rattle.kinds.specs.declared.KindLine as declared
 use Rattle.kinds.specs.Lines.{kindAt, lineAt, StandsIn}
 use Rattle.kinds.specs.Sections.{SomeFill, WithFill, HasKinds, WithKinds}
@@ -32,15 +32,7 @@ pub record Striking (v : ℕ) (R : Strikes) : Type 1 where
   pub more : {X : Type 0} (f : X → List Rule) (done : List X) (x : X) {t u w : List ℕ} {a b n : ℕ} → Table v t → R (flatMap f done) t a u b
       → R (f x) u 0 w n → R (flatMap f (done ++ (x ∷ []))) t a w (b + n)
 
--- those of a pass, and those by bounds that stay
-pub pass-strikes : {v : ℕ} → Striking v (Pass (Quiet v) v)
-pass-strikes {v} =
-    record {
-      kept = λ p. p .kept;
-      none = λ f h. pass-start (Quiet v) f h;
-      more = λ f done x {b = b} h p q. pass-more (Quiet v) f done x h p (pass-from (Quiet v) b q);
-    }
-
+-- those by bounds that stay
 pub once-strikes : {v : ℕ} → Striking v (Once v)
 once-strikes =
     record {
@@ -121,18 +113,6 @@ module _ {v : ℕ} {R : Strikes} (s : Striking v R) {f : List KindLine → KindL
     pub kind-ready : Ready v u × StandsIn v ws k
     kind-ready =
         (ready-kept ready (along-kept s along has), subst (StandsIn v ws) (sym found) (met-at v count ws has (along .walk) more .stands))
-
-    -- it is one of the lines
-    pub kind-among : WithKinds v count ws (λ ks. List·Memᴰ (lineAt ws k) ks)
-    kind-among ks p =
-        let (rest, d, e) = walk-lines (kindLine v) count ws (along .walk) ks p in
-        let (g, f, ls, h) = section-met (kindLine v) left more (drop at ws) rest d in
-        let m = kind-met v count ws has (along .walk) more in
-        let same : good (m .0) ≡ good g = sym (m .1) ∙ f in
-        let one : m .0 .line ≡ g .line = cc in
-        let there : m .0 .line ≡ lineAt ws (kindAt ws at) = met-at v count ws has (along .walk) more .line in
-        subst (λ (js : List KindLine). List·Memᴰ (lineAt ws k) js) (sym (e ∙ ap (λ (js : List KindLine). along .walk .done ++ js) h))
-        (Memᴰ·append-right (along .walk .done) (List·Memᴰ·head (ap (lineAt ws) found ∙ sym there ∙ one)))
 
     -- its rules strike, and the next line begins where it ends
     pub kind-next : {w : List ℕ} {n : ℕ} → WithKinds v count ws (λ ks. R (f ks (lineAt ws k)) u 0 w n)

@@ -2,21 +2,21 @@
 use mathlib.Core.Path.{_≡_, refl, sym, ap, _∙_, subst}
 use mathlib.Core.List.{List, [], _∷_, _++_, flatMap, append-nil, append-assoc}
 use Prim.Native.Nat.{ℕ, suc, zero, _+_, _*_, _^_, _-_, _<_, _≤_}
-use native.Mathlib.Nat.{zero-add, mul-le-mul}
+use native.Mathlib.Nat.{mul-le-mul}
 use native.Mathlib.Omega.{arith}
-use lib.Dec.{T, T-not}
+use lib.Dec.{T-not}
 use lib.ListN.{length, getD}
 use Rattle.rules.specs.Relations.{relations, meet, size, _liesWithin_}
 use Rattle.rules.specs.Descriptions.{mostCells, mostBoards}
 use Rattle.rules.specs.Tables.{Table, narrowed, emptied, total, range, upTo}
 use Rattle.rules.specs.Closing.{Rule, Idle, lies}
 use Rattle.rules.proofs.Sets.{lies-refl, lies-trans, meet-left, size-mono, lies-one}
-use Rattle.rules.proofs.Members.{All, all-none, all-one, one-all, all-append, append-left, append-right}
-use Rattle.rules.proofs.Inside.{in-range, inside-refl, inside-trans, inside-antisym, total-mono, total-tight, emptied-in, emptied-inside}
-use Rattle.rules.proofs.Strikes.{strike-table, strike-inside, strike-keeps, strike-within, strike-idle, strike-total}
+use Rattle.rules.proofs.Members.{all-none, all-one, one-all, all-append, append-left, append-right}
+use Rattle.rules.proofs.Inside.{in-range, inside-refl, inside-trans, inside-antisym, total-mono, total-tight, emptied-in}
+use Rattle.rules.proofs.Strikes.{strike-table, strike-inside, strike-keeps, strike-within, strike-total}
 use Rattle.rules.proofs.Rules.{Grows}
 use Rattle.rules.proofs.Calls.{total-most}
-use Rattle.passes.specs.Passes.{mostMembers, Filled, Idles, Narrowed, Ready, Kept, Pass, Once, Clash}
+use Rattle.passes.specs.Passes.{mostMembers, Filled, Idles, Narrowed, Ready, Kept, Once}
 
 over-more : {X : Type 0} (f : X → List Rule) (done : List X) (x : X) → flatMap f done ++ f x ≡ flatMap f (done ++ (x ∷ []))
 unfolding flatMap
@@ -87,72 +87,6 @@ module _ {v : ℕ} where
             strike-keeps t k b j (subst (λ (y : ℕ). getD x k 0 liesWithin y) (sym e) (lies-trans (one-all (Idle v x) d) (g x t j)));
         counted = omega arith;
       })
-
-  -- an empty cell in what is left is one in every table that was to be kept
-  pub kept-clash : {rs : List Rule} {t w : List ℕ} {a b : ℕ} → Kept v rs t a w b → T (emptied w) → Clash v rs t
-  kept-clash k e x h i d = emptied-inside h (k .keeps x i d) e
-
-  -- ---- passes
-
-  module _ (Q : List ℕ → Rule → Type 0) where
-    -- a table in which Q holds of each rule may stay as it is
-    pub pass-still : {rs : List Rule} {t : List ℕ} {a : ℕ} → Table v t → All (Q t) rs → Pass Q v rs t a t a
-    pass-still h f = record { kept = kept-start h; quiet = λ e. f }
-
-    pub pass-then : (rs : List Rule) {qs : List Rule} {t u w : List ℕ} {a b c : ℕ} → Table v t → Pass Q v rs t a u b → Pass Q v qs u b w c → Pass Q v (rs ++ qs) t a w c
-    pass-then rs {qs} {t} {u} {w} {a} {b} {c} h f g =
-        let l : a ≤ b = kept-count (f .kept) in
-        let m : b ≤ c = kept-count (g .kept) in
-        record {
-          kept = kept-then rs (f .kept) (g .kept);
-          quiet =
-              λ e.
-              all-append (Q t) rs (f .quiet (omega arith))
-              (subst (λ (x : List ℕ). All (Q x) qs) (kept-tight h (f .kept) (omega arith)) (g .quiet (omega arith)));
-        }
-
-    pub pass-start : {X : Type 0} (f : X → List Rule) {t : List ℕ} {a : ℕ} → Table v t → Pass Q v (flatMap f []) t a t a
-    unfolding flatMap
-    pass-start f {t} h = pass-still h (all-none (Q t))
-
-    pub pass-from : {rs : List Rule} {t w : List ℕ} {n : ℕ} (a : ℕ) → Pass Q v rs t 0 w n → Pass Q v rs t a w (a + n)
-    pass-from a k = record { kept = kept-from a (k .kept); quiet = λ e. k .quiet (omega arith) }
-
-    -- on to the next of a list, of a range
-    pub pass-more : {X : Type 0} (f : X → List Rule) (done : List X) (x : X) {t u w : List ℕ} {a b c : ℕ} → Table v t → Pass Q v (flatMap f done) t a u b
-        → Pass Q v (f x) u b w c → Pass Q v (flatMap f (done ++ (x ∷ []))) t a w c
-    pass-more f done x {t} {w = w} {a} {c = c} h k l =
-        subst (λ (rs : List Rule). Pass Q v rs t a w c) (over-more f done x) (pass-then (flatMap f done) h k l)
-
-    pub pass-next : (f : ℕ → List Rule) (i : ℕ) {t u w : List ℕ} {a b c : ℕ} → Table v t → Pass Q v (flatMap f (upTo i)) t a u b → Pass Q v (f i) u b w c
-        → Pass Q v (flatMap f (upTo (i + 1))) t a w c
-    pass-next f i {t} {w = w} {a} {c = c} h k l =
-        subst (λ (is : List ℕ). Pass Q v (flatMap f is) t a w c) (sym (upTo-more i)) (pass-more f (upTo i) i h k l)
-
-    -- a range that has been passed whole
-    pub pass-whole : (f : ℕ → List Rule) {i : ℕ} (n : ℕ) {t w : List ℕ} {a b : ℕ} → i ≤ n → n ≤ i → Pass Q v (flatMap f (upTo i)) t a w b
-        → Pass Q v (flatMap f (upTo n)) t a w b
-    pass-whole f {i} n {t} {w} {a} {b} h l k = let e : i ≡ n = omega arith in subst (λ (j : ℕ). Pass Q v (flatMap f (upTo j)) t a w b) e k
-
-    -- a strike by one of some rules is a pass by them, if Q holds of each where it changes nothing
-    pub pass-struck : (rs : List Rule) (r : Rule) → ((x : List ℕ) → Idles v rs x → Idle v x r) → Grows (r .bound) → {t w : List ℕ} {b n : ℕ} → Table v t
-        → v * r .row + r .column < length t → b ≡ r .bound t → Narrowed t (v * r .row + r .column) b w n → (w ≡ t → Idle v t r → All (Q t) rs)
-        → Pass Q v rs t 0 w n
-    pass-struck rs r d g {t} {w} {b} {n} h l e m f =
-        let k : Kept v (r ∷ []) t 0 w n =
-        subst (λ (c : ℕ). Kept v (r ∷ []) t 0 w c) (zero-add n) (kept-strike r g h l e m) in
-        record {
-          kept = kept-as (λ x i. all-one (Idle v x) (d x i)) k;
-          quiet =
-              λ z.
-              let y : w ≡ t = kept-tight h k z in
-              f y (subst (λ (x : ℕ). getD t (v * r .row + r .column) 0 liesWithin x) e (strike-idle t (v * r .row + r .column) b (sym (m .cells) ∙ y)));
-        }
-
-    pub pass-strike : (r : Rule) → Grows (r .bound) → {t w : List ℕ} {a b n : ℕ} → Table v t → v * r .row + r .column < length t → b ≡ r .bound t
-        → Narrowed t (v * r .row + r .column) b w n → (w ≡ t → Idle v t r → Q t r) → Pass Q v (r ∷ []) t a w (a + n)
-    pass-strike r g {t} {a = a} h l e m f =
-        pass-from a (pass-struck (r ∷ []) r (λ x d. one-all (Idle v x) d) g h l e m (λ y d. all-one (Q t) (f y d)))
 
   -- ---- passes by bounds that stay
 

@@ -40,19 +40,6 @@ pub record Kept (v : ℕ) (rs : List Rule) (t : List ℕ) (a : ℕ) (w : List �
   pub keeps : (x : List ℕ) → Inside x t → Idles v rs x → Inside x w
   pub counted : b + total w ≡ a + total t
 
--- Strikes took the table t to w, as `Kept` says; and where nothing was struck, Q holds of each rule.
-pub record Pass (Q : List ℕ → Rule → Type 0) (v : ℕ) (rs : List Rule) (t : List ℕ) (a : ℕ) (w : List ℕ) (b : ℕ) : Type 0 where
-  pub kept : Kept v rs t a w b
-  pub quiet : b ≡ a → (r : Rule) → List·Memᴰ r rs → Q t r
-
--- the rule strikes nothing, or there is an empty cell
-abbrev pub Quiet : ℕ → List ℕ → Rule → Type 0
-Quiet v t r = Filled t → Idle v t r
-
--- the rule strikes nothing, and its cell is not empty
-abbrev pub Sound : ℕ → List ℕ → Rule → Type 0
-Sound v t r = Idle v t r × (cell v t (r .row) (r .column) ≡ 0 → ⊥)
-
 -- Strikes took the table t to w, as `Kept` says; and the rules strike nothing in any table inside w.
 pub record Once (v : ℕ) (rs : List Rule) (t : List ℕ) (a : ℕ) (w : List ℕ) (b : ℕ) : Type 0 where
   pub kept : Kept v rs t a w b

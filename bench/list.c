@@ -273,10 +273,10 @@ static int close_listed(const struct header *h, const uint16_t *words, uint8_t *
 
 uint64_t list_open(const uint16_t *words, size_t n, uint8_t *table, size_t m)
 {
-    return open_by(close_listed, words, n, table, m);
+    return open_by(WITHOUT_SETS, close_listed, words, n, table, m);
 }
 
 uint64_t list_close(const uint16_t *words, size_t n, uint8_t *table, size_t m)
 {
-    return close_by(close_listed, words, n, table, m);
+    return close_by(take, close_listed, words, n, table, m);
 }

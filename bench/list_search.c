@@ -38,7 +38,7 @@ static int drain(struct state *s)
 
 uint64_t list_search(const uint16_t *words, size_t n, uint8_t *table, size_t m, uint32_t budget)
 {
-    static const struct method by_list = {close_first, restart, strike_chosen, drain};
+    static const struct method by_list = {take, close_first, restart, strike_chosen, drain};
     struct listed s;
     return search_by(&by_list, &s.state, words, n, table, m, budget);
 }

@@ -128,10 +128,10 @@ int close_again(const struct header *h, const uint16_t *words, uint8_t *cells)
 
 uint64_t plain_open(const uint16_t *words, size_t n, uint8_t *table, size_t m)
 {
-    return open_by(close_cells, words, n, table, m);
+    return open_by(WITH_SETS, close_cells, words, n, table, m);
 }
 
 uint64_t plain_close(const uint16_t *words, size_t n, uint8_t *table, size_t m)
 {
-    return close_by(close_cells, words, n, table, m);
+    return close_by(take_with_sets, close_cells, words, n, table, m);
 }

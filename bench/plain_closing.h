@@ -125,12 +125,12 @@ static inline __attribute__((always_inline)) uint64_t close_into(closing *close,
     return answer(TALUNG_OK, struck);
 }
 
-/* Opens a table by a method. */
-static inline __attribute__((always_inline)) uint64_t open_by(closing *close, const uint16_t *words, size_t n, uint8_t *table, size_t m)
+/* Opens a table by a method, whose reading is with sets or without. */
+static inline __attribute__((always_inline)) uint64_t open_by(enum reading sets, closing *close, const uint16_t *words, size_t n, uint8_t *table, size_t m)
 {
     struct header h;
     uint8_t cells[TALUNG_MOST_CELLS];
-    struct refusal found = admit(words, n, m, &h);
+    struct refusal found = admit(sets, words, n, m, &h);
     if (found.number)
         return refuse_at(found);
     for (size_t i = 0; i < TALUNG_MOST_CELLS; i++)
@@ -139,11 +139,11 @@ static inline __attribute__((always_inline)) uint64_t open_by(closing *close, co
 }
 
 /* Closes a table by a method. */
-static inline __attribute__((always_inline)) uint64_t close_by(closing *close, const uint16_t *words, size_t n, uint8_t *table, size_t m)
+static inline __attribute__((always_inline)) uint64_t close_by(taking *take_by, closing *close, const uint16_t *words, size_t n, uint8_t *table, size_t m)
 {
     struct header h;
     uint8_t cells[TALUNG_MOST_CELLS];
-    struct refusal found = take(words, n, table, m, &h, cells);
+    struct refusal found = take_by(words, n, table, m, &h, cells);
     if (found.number)
         return refuse_at(found);
     return close_into(close, &h, words, cells, table, m);

@@ -79,7 +79,11 @@ struct header {
 struct refusal read_description(const uint16_t *words, size_t n, struct header *h);
 
 /* Reads the description of n words, and copies the table of m cells. Answers the first refusal, if there is one. */
-struct refusal take(const uint16_t *words, size_t n, const uint8_t *table, size_t m, struct header *h, uint8_t *cells);
+typedef struct refusal taking(const uint16_t *words, size_t n, const uint8_t *table, size_t m, struct header *h, uint8_t *cells);
+
+/* As the product does, and as the sweeps do, which find the set of each line then too. */
+taking take;
+taking take_with_sets;
 
 /* Closes the cells under the description. Answers the number struck, or -1 if a cell is empty. */
 typedef int closing(const struct header *h, const uint16_t *words, uint8_t *cells);

@@ -11,6 +11,9 @@ enum {
     INVERSE = 7
 };
 
+/* How many operands each code has. */
+static const uint8_t operands[8] = {0, 0, 0, 0, 2, 2, 1, 1};
+
 /* The relation of p to q is one of the allowed. */
 struct relation_line {
     size_t p;
@@ -24,6 +27,12 @@ struct relation_line {
 struct expression {
     int set;
     const uint16_t *at;
+};
+
+/* The sweeps read each expression with its set, before the rules read it again, as the product did once. The product now tests it without. */
+enum reading {
+    WITH_SETS,
+    WITHOUT_SETS
 };
 
 /* In place of a set, where there is none. */
@@ -52,8 +61,22 @@ static struct expression evaluate(const uint16_t *at, const uint16_t *end)
     return (struct expression){code == UNION ? x.set | y.set : x.set & y.set, y.at};
 }
 
-/* Reads the relation line at the front of n words, for boards below v. Answers the refusal, if there is one, with its place from the line's first word. */
-static struct refusal read_relation_line(size_t v, const uint16_t *words, size_t n, struct relation_line *line)
+/* Where the first word stands that does not go on with one whole expression, or the end where words are missing; or 0 where the words are one. It counts the
+   operands that are still needed. */
+static inline const uint16_t *scan(const uint16_t *at, const uint16_t *end)
+{
+    unsigned needed = 1;
+    for (; at < end; at++) {
+        if (needed == 0 || *at > INVERSE)
+            return at;
+        needed = needed - 1 + operands[*at];
+    }
+    return needed == 0 ? 0 : end;
+}
+
+/* Tests all of the relation line at the front of n words but its expression, for boards below v. Answers the refusal, if there is one, with its place from the
+   line's first word. */
+static inline __attribute__((always_inline)) struct refusal read_front(size_t v, const uint16_t *words, size_t n, struct relation_line *line)
 {
     if (n < HEAD_WORDS)
         return refuse(TALUNG_UNFIT, n);
@@ -66,15 +89,34 @@ static struct refusal read_relation_line(size_t v, const uint16_t *words, size_t
         return refuse(TALUNG_NO_BOARD, 0);
     if (words[1] >= v)
         return refuse(TALUNG_NO_BOARD, 1);
-    const uint16_t *end = words + HEAD_WORDS + length;
+    line->length = HEAD_WORDS + length;
+    return good;
+}
+
+/* Reads that line. */
+static struct refusal read_relation_line(size_t v, const uint16_t *words, size_t n, struct relation_line *line)
+{
+    struct refusal refused = read_front(v, words, n, line);
+    if (refused.number)
+        return refused;
+    const uint16_t *end = words + line->length;
     struct expression found = evaluate(words + HEAD_WORDS, end);
     if (found.set < 0 || found.at != end)
         return refuse(TALUNG_NO_EXPRESSION, (size_t)(found.at - words));
     line->p = words[0];
     line->q = words[1];
     line->allowed = (uint8_t)found.set;
-    line->length = HEAD_WORDS + length;
     return good;
+}
+
+/* Tests that line without its set, and tells its length alone. */
+static inline struct refusal test_relation_line(size_t v, const uint16_t *words, size_t n, struct relation_line *line)
+{
+    struct refusal refused = read_front(v, words, n, line);
+    if (refused.number)
+        return refused;
+    const uint16_t *failed = scan(words + HEAD_WORDS, words + line->length);
+    return failed ? refuse(TALUNG_NO_EXPRESSION, (size_t)(failed - words)) : good;
 }
 
 /* Reads a header, word by word. */
@@ -107,13 +149,14 @@ static struct refusal ended(size_t at, size_t n)
     return at < n ? refuse(TALUNG_UNFIT, at) : good;
 }
 
-/* Reads as many relation lines as this. They must fill the n words. Answers the first refusal, if there is one, with its place in these words. */
-static struct refusal read_relation_lines(size_t v, size_t count, const uint16_t *words, size_t n)
+/* Reads as many relation lines as this, or tests them where their sets are not wanted. They must fill the n words. Answers the first refusal, if there is one,
+   with its place in these words. */
+static inline __attribute__((always_inline)) struct refusal read_relation_lines(enum reading sets, size_t v, size_t count, const uint16_t *words, size_t n)
 {
     size_t at = 0;
     for (size_t i = 0; i < count; i++) {
         struct relation_line line;
-        struct refusal found = read_relation_line(v, words + at, n - at, &line);
+        struct refusal found = (sets == WITHOUT_SETS ? test_relation_line : read_relation_line)(v, words + at, n - at, &line);
         if (found.number)
             return later(at, found);
         at += line.length;
@@ -180,12 +223,12 @@ static struct refusal read_agreed_lines(size_t v, size_t count, const uint16_t *
 }
 
 /* Reads a whole description. Answers the first refusal, if there is one. Each of its callers has it in its own code, so that a closing reads without a call. */
-static inline __attribute__((always_inline)) struct refusal read_whole(const uint16_t *words, size_t n, struct header *h)
+static inline __attribute__((always_inline)) struct refusal read_whole(enum reading sets, const uint16_t *words, size_t n, struct header *h)
 {
     struct refusal found = read_header(words, n, h);
     if (found.number)
         return found;
-    found = read_relation_lines(h->boards, h->lines, words + HEADER_WORDS, h->kinds_at - HEADER_WORDS);
+    found = read_relation_lines(sets, h->boards, h->lines, words + HEADER_WORDS, h->kinds_at - HEADER_WORDS);
     if (found.number)
         return later(HEADER_WORDS, found);
     found = read_agreed_lines(h->boards, h->kinds, words + h->kinds_at, n - h->kinds_at);
@@ -193,9 +236,9 @@ static inline __attribute__((always_inline)) struct refusal read_whole(const uin
 }
 
 /* Reads a whole description, and then looks whether m cells are one for each two boards. Answers the first refusal, if there is one. */
-static inline __attribute__((always_inline)) struct refusal admit(const uint16_t *words, size_t n, size_t m, struct header *h)
+static inline __attribute__((always_inline)) struct refusal admit(enum reading sets, const uint16_t *words, size_t n, size_t m, struct header *h)
 {
-    struct refusal found = read_whole(words, n, h);
+    struct refusal found = read_whole(sets, words, n, h);
     if (found.number)
         return found;
     return m == h->boards * h->boards ? good : refuse(TALUNG_NO_TABLE, 0);

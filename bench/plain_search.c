@@ -18,7 +18,7 @@ static int sweep_again(struct state *s)
 
 uint64_t plain_search(const uint16_t *words, size_t n, uint8_t *table, size_t m, uint32_t budget)
 {
-    static const struct method by_sweeps = {sweep_first, copy_first, put_chosen, sweep_again};
+    static const struct method by_sweeps = {take_with_sets, sweep_first, copy_first, put_chosen, sweep_again};
     struct state s;
     return search_by(&by_sweeps, &s, words, n, table, m, budget);
 }

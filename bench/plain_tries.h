@@ -27,9 +27,10 @@ struct state {
     uint8_t choices[MOST_PAIRS];
 };
 
-/* What a version does by its own method: closes the first table, and answers whether it is not contradictory; makes the table at hand the first one; narrows in it
-   the cell of a pair to the relation that is chosen there; and closes it then, with the same answer. */
+/* What a version does by its own method: takes the description and the table; closes the first table, and answers whether it is not contradictory; makes the table
+   at hand the first one; narrows in it the cell of a pair to the relation that is chosen there; and closes it then, with the same answer. */
 struct method {
+    taking *take;
     int (*close_first)(struct state *s);
     void (*restart)(struct state *s);
     void (*choose)(struct state *s, struct pair at);
@@ -151,7 +152,7 @@ static inline __attribute__((always_inline)) uint64_t search_by(const struct met
 {
     static const uint8_t order[RELATIONS] = {0, 1, 2, 3};
     struct header h;
-    struct refusal refused = take(words, n, table, m, &h, s->first);
+    struct refusal refused = by->take(words, n, table, m, &h, s->first);
     if (refused.number)
         return refuse_at(refused);
     s->header = &h;

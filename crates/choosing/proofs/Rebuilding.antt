@@ -1,10 +1,9 @@
 -- A table is narrowed choice by choice along the pairs, and the list has what that changes. Assumes nothing.
-use mathlib.Core.Path.{_≡_, sym, ap, _∙_, subst}
+use mathlib.Core.Path.{_≡_, sym, ap, subst}
 use mathlib.Core.Bool.{Bool, true, false}
 use mathlib.Core.Logic.{⊎-elim}
 use mathlib.Core.List.{List}
-use Prim.Native.Nat.{ℕ, _+_, _*_, _≤_, _<_}
-use native.Mathlib.Nat.{le-antisymm}
+use Prim.Native.Nat.{ℕ, _+_, _≤_, _<_}
 use native.Mathlib.Omega.{arith}
 use lib.Dec.{T-not}
 use lib.ListN.{length, getD, replicate}
@@ -16,7 +15,7 @@ use Rattle.rules.proofs.Tests.{below-suc}
 use Rattle.rules.proofs.Sets.{lies-trans}
 use Rattle.orders.specs.Orders.{pick}
 use Rattle.moves.specs.Moves.{Marks, Mutual, Struck, Moved}
-use Rattle.moves.proofs.Moving.{moved-none, moved-then, moved-as, strike-moved, strike-lost, strike-within}
+use Rattle.moves.proofs.Moving.{moved-none, moved-then, strike-moved, strike-lost, strike-within}
 use Rattle.choosing.specs.declared.pairs.Pair.{Pair}
 use Rattle.choosing.specs.Pairs.{pairCell, IsPair}
 use Rattle.choosing.specs.Choices.{Chosen, Standing, Restored}

@@ -1,7 +1,7 @@
 -- What a strike from both sides does to a table and to the list, whatever is to be kept; and moves one after the other. Assumes nothing.
 use mathlib.Core.Path.{_≡_, refl, sym, ap, _∙_, subst}
-use mathlib.Core.Bool.{Bool, true, false, not, _||_}
-use mathlib.Core.Logic.{⊎-elim, _⊎_, inl, inr}
+use mathlib.Core.Bool.{Bool, true, false, not}
+use mathlib.Core.Logic.{⊎-elim, _⊎_}
 use mathlib.Core.List.{List, [], _∷_}
 use Prim.Native.Nat.{ℕ, zero, suc, _+_, _*_, _^_, _≤_, _<_}
 use native.Mathlib.Nat.{mul-le-mul-left, mul-suc, not-suc-le-zero, le-of-suc-le-suc}
@@ -10,16 +10,16 @@ use lib.Dec.{T, eqb, eqb→eq, eqb-refl, not-T, T-not}
 use lib.Count.{ones}
 use lib.ListN.{length, getD, set, length-set}
 use lib.Seq.{getD-set-same, getD-set-other}
-use Rattle.rules.specs.Relations.{relations, same, E, has, setLimit, meet, _liesWithin_, converse}
+use Rattle.rules.specs.Relations.{same, E, has, setLimit, _liesWithin_, converse}
 use Rattle.rules.specs.Descriptions.{mostBoards}
 use Rattle.rules.specs.Tables.{cell, Table, Inside, emptied, total}
 use Rattle.rules.proofs.Tests.{order-cases, T-decide, T-not-not, T-or, or-T-left, or-T-right}
-use Rattle.rules.proofs.Sets.{lies-refl, lies-eq, lies-trans, lies-one, lies-zero, zero-lies, meet-small, meet-left, meet-right, meet-largest}
+use Rattle.rules.proofs.Sets.{lies-refl, lies-eq, lies-trans, lies-one, lies-zero, meet-small, meet-left, meet-right, meet-largest}
 use Rattle.rules.proofs.Rules.{same-small}
 use Rattle.rules.proofs.Composition.{converse-small, converse-mono, converse-converse, converse-zero}
-use Rattle.rules.proofs.Inside.{in-range, inside-refl, inside-trans, total-mono, total-tight, emptied-in, emptied-out}
+use Rattle.rules.proofs.Inside.{in-range, inside-refl, inside-trans, total-tight, emptied-in, emptied-out}
 use Rattle.rules.proofs.Strikes.{set-each, set-back}
-use Rattle.passes.specs.Passes.{Filled, Ready}
+use Rattle.passes.specs.Passes.{Filled}
 use Rattle.passes.proofs.Passes.{ready-place}
 use Rattle.bits.specs.Sets.{added}
 use Rattle.bits.proofs.Laws.{has-added, added-small, ones-added}

@@ -1,8 +1,7 @@
 -- Each rule reads the cells that its watch says and no others, and whether it reads a pair can be told. Assumes nothing.
-use mathlib.Core.Path.{_≡_, refl, sym, ap, ap₂, _∙_, subst}
+use mathlib.Core.Path.{_≡_, refl, ap, ap₂, subst}
 use mathlib.Core.Bool.{Bool, true, false, not, _&&_, _||_}
 use mathlib.Core.Logic.{⊎-elim, _⊎_, inl, inr}
-use mathlib.Core.List.{List}
 use Prim.Native.Nat.{ℕ, zero, suc, _<_}
 use native.Mathlib.Omega.{arith}
 use lib.Dec.{T, eqb, eqb→eq}
@@ -12,7 +11,7 @@ use Rattle.rules.specs.Tables.{cell}
 use Rattle.rules.specs.Arrangements.{way, width}
 use Rattle.rules.specs.Closing.{unless, reaches, agree, bound6, bound6′, bound7′}
 use Rattle.rules.proofs.Tests.{T-decide, T-differ, below-suc}
-use Rattle.moves.specs.Watches.{Watch, Honest, Is, through, feeds, feeds′, apart, matches, matches′}
+use Rattle.moves.specs.Watches.{Honest, Is, through, feeds, feeds′, apart, matches, matches′}
 
 -- two tests that agree on each number below n
 some-same : (n : ℕ) (f g : ℕ → Bool) → ((i : ℕ) → i < n → f i ≡ g i) → someBelow n f ≡ someBelow n g

@@ -13,7 +13,7 @@ use Rattle.rules.proofs.Strikes.{set-back}
 use Rattle.passes.specs.Passes.{Ready}
 use Rattle.passes.proofs.Passes.{ready-place}
 use Rattle.bits.specs.Sets.{added}
-use Rattle.moves.specs.Moves.{Marks, Mutual, keptOf, noted, Struck}
+use Rattle.moves.specs.Moves.{Mutual, keptOf, noted, Struck}
 
 -- tests of numbers that are equal, and that are not
 pub equal-true : {x y : ℕ} → x ≡ y → eqb x y ≡ true

@@ -6,7 +6,7 @@ use Prim.Native.Nat.{ℕ, _+_, _*_, _^_, _≤_, _<_}
 use lib.Dec.{T, eqb}
 use lib.Count.{ones}
 use lib.ListN.{length, getD, set}
-use Rattle.rules.specs.Relations.{E, has, meet, _liesWithin_, converse}
+use Rattle.rules.specs.Relations.{E, has, meet, converse}
 use Rattle.rules.specs.Descriptions.{mostBoards, KindLine}
 use Rattle.rules.specs.Tables.{cell, Table, Inside, emptied, total}
 use Rattle.rules.specs.Arrangements.{width}

@@ -12,12 +12,12 @@ use Rattle.rules.specs.Relations.{relations, same, above, E, A, has, Lacks, mee
 use Rattle.rules.specs.Descriptions.{KindLine}
 use Rattle.rules.specs.Tables.{cell, Inside}
 use Rattle.rules.specs.Closed.{Misses}
-use Rattle.rules.specs.Closing.{reaches, bound6, bound6′, Rule, Idle, lies, boardsOf, waysOf, rules2, rule6}
+use Rattle.rules.specs.Closing.{reaches, bound6, bound6′, Rule, Idle, lies, waysOf, rules2, rule6}
 use Rattle.rules.proofs.Tests.{true-T, or-T-left, or-T-right, T-or, T-decide, T-ext, differ-T, T-differ, order-cases}
 use Rattle.rules.proofs.Digits.{has-zero, has-single}
 use Rattle.rules.proofs.Sets.{lies-eq, lies-trans, meet-small, meet-left, meet-right, complement-out, some-member, shared, unshared-lacks}
 use Rattle.rules.proofs.Members.{one-all, append-left, append-right}
-use Rattle.rules.proofs.Rules.{boards-all, ways-all, relations-pos, same-small, misses-not, not-misses, bound6-none, said6, bound6′-alone, said6′, bound6-grows, bound6′-grows}
+use Rattle.rules.proofs.Rules.{ways-all, relations-pos, same-small, misses-not, not-misses, bound6-none, said6, bound6′-alone, said6′, bound6-grows, bound6′-grows}
 use Rattle.passes.specs.Passes.{Idles}
 use Rattle.passes.proofs.Passes.{filled-one, ready-place}
 use Rattle.moves.specs.Watches.{feeds, feeds′}

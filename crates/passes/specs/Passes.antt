@@ -7,7 +7,7 @@ use lib.Dec.{T}
 use lib.ListN.{getD}
 use Rattle.rules.specs.Relations.{meet, size}
 use Rattle.rules.specs.Descriptions.{mostBoards, mostCells}
-use Rattle.rules.specs.Tables.{cell, Table, narrowed, Inside, emptied, total}
+use Rattle.rules.specs.Tables.{Table, narrowed, Inside, emptied, total}
 use Rattle.rules.specs.Closing.{Rule, Idle}
 
 -- the most relations in the cells of a table

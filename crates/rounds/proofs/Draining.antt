@@ -1,7 +1,6 @@
 -- Visits one after the other, and pairs taken off the list one after the other: what they keep, and what is left when nothing is on the list. Assumes nothing.
-use mathlib.Core.Path.{_≡_, sym, ap, _∙_, subst}
+use mathlib.Core.Path.{_≡_, sym, subst}
 use mathlib.Core.Bool.{Bool, true, false}
-use mathlib.Core.Logic.{⊎-elim}
 use mathlib.Core.List.{List, _++_, List·Memᴰ}
 use Prim.Native.Nat.{ℕ, _+_, _*_, _^_, _-_, _≤_, _<_}
 use native.Mathlib.Nat.{lt-of-lt-of-le, mul-le-mul}
@@ -18,14 +17,14 @@ use Rattle.rules.proofs.Digits.{has-zero, has-small}
 use Rattle.rules.proofs.Members.{zeros, all-append, append-left, append-right}
 use Rattle.rules.proofs.Inside.{inside-refl, inside-trans, total-mono}
 use Rattle.passes.specs.Passes.{Idles, Ready}
-use Rattle.kinds.specs.Sections.{Kinds, HasKinds}
+use Rattle.kinds.specs.Sections.{Kinds}
 use Rattle.by_board.specs.Found.{numbered}
 use Rattle.by_board.proofs.Numbers.{numbered-out, numbered-stands}
 use Rattle.bits.specs.Sets.{wordBits, removed, lowest}
 use Rattle.bits.proofs.Laws.{lowest-has}
 use Rattle.moves.specs.Watches.{through, feeds, feeds′, apart, matches, matches′}
-use Rattle.moves.specs.Moves.{Marks, Off, marks, FirstMarked, Mutual, Moved, Tended, Lost, FedFor, MatchedFor, Owed}
-use Rattle.moves.proofs.Moving.{off-neither, moved-then, moved-as, lost-as, lost-then, tended-moved}
+use Rattle.moves.specs.Moves.{Marks, marks, FirstMarked, Mutual, Moved, Tended, Lost, FedFor, MatchedFor, Owed}
+use Rattle.moves.proofs.Moving.{off-neither, moved-then, moved-as, tended-moved}
 use Rattle.moves.proofs.Reading.{through-honest, feeds-honest, feeds′-honest, apart-honest, matches-honest, matches′-honest}
 use Rattle.sweeps.specs.Sweeps.{Evenly, ThroughEach, ThroughBoth, Noted}
 use Rattle.rounds.specs.Rounds.{rulesAgain, Settled, Again, Cleared, LinesSeen, Seen, Drained, drained}

@@ -1,29 +1,27 @@
 -- At a first closing every pair of which something is known is on the list. What no such pair is read by strikes nothing: a full cell strikes nothing, and
 -- neither does a board beside itself. Assumes nothing.
 use mathlib.Core.Path.{_≡_, refl, sym, ap, _∙_, subst}
-use mathlib.Core.Bool.{Bool, true, false, not, _&&_}
+use mathlib.Core.Bool.{not, _&&_}
 use mathlib.Core.Logic.{⊎-elim, _⊎_, inl, inr}
 use mathlib.Core.List.{List, List·Memᴰ}
 use Prim.Native.Nat.{ℕ, zero, suc, _^_, _<_}
 use native.Mathlib.Omega.{arith}
-use lib.Dec.{T, eqb, eqb→eq, eqb-refl, T-not}
-use lib.ListN.{length}
+use lib.Dec.{T, eqb, eqb→eq, T-not}
 use Rattle.rules.specs.Relations.{eachBelow, relations, same, above, E, A, has, setTo, setOf, full, setLimit, complement, _liesWithin_, singles, composed, compose}
 use Rattle.rules.specs.Descriptions.{KindLine, OneArity}
 use Rattle.rules.specs.Tables.{cell}
 use Rattle.rules.specs.Arrangements.{way, width}
-use Rattle.rules.specs.Closing.{unless, reaches, agree}
+use Rattle.rules.specs.Closing.{reaches, agree}
 use Rattle.rules.proofs.Tests.{T-decide, T-differ, and-T, or-T-left, each-at}
-use Rattle.rules.proofs.Digits.{has-single, single-has}
+use Rattle.rules.proofs.Digits.{has-single}
 use Rattle.rules.proofs.Sets.{lies-eq, lies-trans, lies-full, single-lies, some-member}
 use Rattle.rules.proofs.Composition.{compose-mono, compose-E-left}
 use Rattle.rules.proofs.Rules.{relations-pos, same-small, misses-not, unless-in, alike-agree, said6, said6′, said7″}
-use Rattle.moves.specs.Watches.{through, feeds, feeds′, apart, matches, matches′}
+use Rattle.moves.specs.Watches.{through, feeds, feeds′, matches, matches′}
 use Rattle.moves.specs.Moves.{Off, Mutual, Moved, Tended, Fed, Matched, Owed}
 use Rattle.moves.proofs.Striking.{cell-some}
 use Rattle.moves.proofs.Moving.{tended-moved}
 use Rattle.moves.proofs.Reading.{through-honest, feeds-honest, feeds′-honest, matches-honest, matches′-honest}
-use Rattle.rounds.proofs.Popping.{OnBoards}
 
 every-single : T (eachBelow relations (λ r. eqb (compose full (2 ^ r)) full))
 unfolding relations has setTo setOf full singles composed compose

@@ -1,21 +1,21 @@
 -- A table in which a rule that strikes something reads a pair on the list: how it stays so, and what it comes to when the list is empty. Assumes nothing.
-use mathlib.Core.Path.{_≡_, sym, ap, _∙_, subst}
-use mathlib.Core.Bool.{Bool, true, false, not, _&&_}
+use mathlib.Core.Path.{sym, subst}
+use mathlib.Core.Bool.{Bool, not, _&&_}
 use mathlib.Core.Logic.{⊎-elim}
-use mathlib.Core.List.{List, _++_, flatMap, List·Memᴰ}
+use mathlib.Core.List.{List, List·Memᴰ}
 use Prim.Native.Nat.{ℕ, _<_}
 use lib.Dec.{T, not-T, T-not}
 use Rattle.rules.specs.Relations.{same, E, has, Lacks, complement, _liesWithin_}
 use Rattle.rules.specs.Descriptions.{KindLine}
 use Rattle.rules.specs.Tables.{cell}
-use Rattle.rules.specs.Arrangements.{way, width, Alike}
-use Rattle.rules.specs.Closing.{unless, agree, bound6, bound6′, bound7, bound7′, Rule, Idle, lies, only, boardsOf, waysOf, rule6, rule7, rules2, rules3, rules6, rules7}
-use Rattle.rules.proofs.Tests.{T-decide, and-T, T-and-left, T-and-right, each-at}
+use Rattle.rules.specs.Arrangements.{way, width}
+use Rattle.rules.specs.Closing.{unless, agree, bound6, bound7, Idle, lies, rule6, rule7, rules2, rules3, rules6, rules7}
+use Rattle.rules.proofs.Tests.{T-decide, and-T, T-and-right, each-at}
 use Rattle.rules.proofs.Members.{All, all-one, one-all, all-append, append-left, append-right, all-over, over-all}
 use Rattle.rules.proofs.Rules.{all-only, only-all, all-boards, boards-all, all-ways, ways-all, same-small, unless-in, unless-out, lies-lacks, lacks-lies, alike-agree, agree-alike, lacks7, said7}
 use Rattle.passes.specs.Passes.{Idles}
 use Rattle.moves.specs.Watches.{Is, through}
-use Rattle.moves.specs.Moves.{Off, Mirrored, Moved, Tended, Fed, Matched, Owed}
+use Rattle.moves.specs.Moves.{Off, Mirrored, Moved, Fed, Matched, Owed}
 use Rattle.moves.proofs.Moving.{tended-moved}
 use Rattle.moves.proofs.Passing.{mirrored-idle}
 use Rattle.moves.proofs.Reading.{through-honest}

@@ -5,24 +5,23 @@ use mathlib.Core.Logic.{⊎-elim, _⊎_, inl, inr}
 use mathlib.Core.List.{List, List·Memᴰ}
 use Prim.Native.Nat.{ℕ, suc, _+_, _*_, _^_, _<_}
 use native.Mathlib.Omega.{arith}
-use lib.Dec.{T, eqb, eqb→eq, not-T, T-not}
+use lib.Dec.{T, eqb}
 use lib.ListN.{length, getD, set, length-set}
-use lib.Seq.{getD-set-same, getD-set-other}
-use Rattle.rules.specs.Relations.{relations, same, E, has, full, setTo, setOf, opposite, complement, _liesWithin_, converse, compose}
+use Rattle.rules.specs.Relations.{relations, same, E, has, setTo, setOf, opposite, complement, _liesWithin_, converse, compose}
 use Rattle.rules.specs.Descriptions.{mostBoards, KindLine}
 use Rattle.rules.specs.Tables.{cell}
 use Rattle.rules.specs.Arrangements.{way, width}
-use Rattle.rules.specs.Closing.{unless, agree, bound7′}
+use Rattle.rules.specs.Closing.{unless, agree}
 use Rattle.rules.proofs.Tests.{T-decide, T-ext, differ-T, and-T}
 use Rattle.rules.proofs.Sets.{has-setOf, lies-eq, lies-trans, lies-full}
-use Rattle.rules.proofs.Composition.{converse-small, converse-mono, converse-converse, converse-compose}
+use Rattle.rules.proofs.Composition.{converse-mono, converse-compose}
 use Rattle.rules.proofs.Rules.{same-small, unless-in, unless-out, agree-alike, alike-agree, says7″, said7″}
 use Rattle.rules.proofs.Strikes.{set-each}
 use Rattle.bits.specs.Sets.{removed}
 use Rattle.bits.proofs.Laws.{has-removed, removed-small, ones-removed}
 use Rattle.moves.specs.Watches.{Watch, Honest, Is, through, feeds, feeds′, apart, matches, matches′}
-use Rattle.moves.specs.Moves.{Marks, Off, marks, Mutual, Moved, Tended, Seen, Fed, Matched, FedFor, MatchedFor, Owed}
-use Rattle.moves.proofs.Moving.{off-mirror, off-both, off-neither, marks-set, tended-moved}
+use Rattle.moves.specs.Moves.{Marks, Off, marks, Mutual, Moved, Tended, Seen, FedFor, MatchedFor, Owed}
+use Rattle.moves.proofs.Moving.{off-mirror, off-both, off-neither, marks-set}
 use Rattle.moves.proofs.Reading.{Told, through-honest, through-told, feeds-honest, feeds-told, feeds′-honest, feeds′-told, apart-honest, matches-honest, matches-told, matches′-honest, matches′-told}
 use Rattle.sweeps.specs.Sweeps.{ThroughEach}
 

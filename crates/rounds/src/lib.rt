@@ -4,7 +4,6 @@ ghost use Rattle.rules.specs.Descriptions.{mostKinds};
 ghost use Rattle.passes.specs.Passes.{Ready};
 ghost use Rattle.sweeps.specs.Sweeps.{Selves};
 ghost use Rattle.kinds.specs.Sections.{HasAgreed, WithKinds};
-ghost use Rattle.by_board.specs.Found.{Indexed};
 ghost use Rattle.moves.specs.Moves.{Marks, Mutual, Went};
 ghost use Rattle.compositions.specs.Composing.{Composes};
 ghost use Rattle.rounds.specs.Rounds.{Again, Apart, LinesSeen, Seen, Owing, Listed, drained, rulesAgain, afterRounds};

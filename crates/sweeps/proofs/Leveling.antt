@@ -3,17 +3,17 @@ use mathlib.Core.Path.{_≡_, refl, sym, ap, ap₂, _∙_, subst}
 use mathlib.Core.Bool.{Bool, true, false, not}
 use mathlib.Core.Logic.{⊎-elim, _⊎_, inl, inr}
 use mathlib.Core.List.{List}
-use Prim.Native.Nat.{ℕ, _+_, _*_, _<_, _≤_}
+use Prim.Native.Nat.{ℕ, _+_, _*_, _<_}
 use native.Mathlib.Omega.{arith}
-use lib.Dec.{T, eqb, eqb→eq, eqb-refl, not-T, T-not}
+use lib.Dec.{T, eqb, eqb→eq, not-T}
 use lib.ListN.{length, getD, set, length-set}
 use lib.Seq.{getD-set-same, getD-set-other}
-use Rattle.rules.specs.Relations.{relations, E, same, opposite, has, setTo, setOf, full, setLimit, meet, _liesWithin_, converse}
+use Rattle.rules.specs.Relations.{relations, E, same, opposite, has, setTo, setOf, full, setLimit, _liesWithin_, converse}
 use Rattle.rules.specs.Tables.{cell, Table, Inside, emptied}
-use Rattle.rules.specs.Closing.{Idle, rules2}
+use Rattle.rules.specs.Closing.{rules2}
 use Rattle.rules.proofs.Tests.{order-cases, T-decide, T-not-not, T-differ}
 use Rattle.rules.proofs.Digits.{has-zero, has-single}
-use Rattle.rules.proofs.Sets.{setOf-small, lies-refl, lies-eq, lies-trans, lies-antisym, lies-full, lies-zero, lies-one, meet-small, meet-left, meet-right, meet-largest}
+use Rattle.rules.proofs.Sets.{setOf-small, lies-refl, lies-trans, lies-antisym, lies-full, lies-zero, lies-one, meet-small, meet-left, meet-right, meet-largest}
 use Rattle.rules.proofs.Composition.{converse-small, converse-mono, converse-converse, converse-single, converse-zero}
 use Rattle.rules.proofs.Rules.{same-small}
 use Rattle.rules.proofs.Inside.{in-range, each-place, inside-refl, inside-trans, emptied-in, emptied-out}
@@ -21,11 +21,11 @@ use Rattle.rules.proofs.Strikes.{set-back}
 use Rattle.passes.specs.Passes.{Filled, Idles, Ready}
 use Rattle.passes.proofs.Passes.{ready-place}
 use Rattle.bits.specs.Sets.{added}
-use Rattle.moves.specs.Moves.{Marks, Off, Mirrored, Mutual, narrowedBoth, noted, Lost}
+use Rattle.moves.specs.Moves.{Marks, Off, Mirrored, narrowedBoth, noted, Lost}
 use Rattle.moves.proofs.Striking.{equal-true, unequal-false}
 use Rattle.moves.proofs.Passing.{turned}
 use Rattle.moves.proofs.Moving.{place-one, long, both-each, both-other, noted-list, noted-off, noted-here, off-mirror, off-both}
-use Rattle.sweeps.specs.Sweeps.{Selves, allowed, Level, Sided, Sides, RowOf, Noted}
+use Rattle.sweeps.specs.Sweeps.{Selves, allowed, Level, Sided, Sides, Noted}
 
 full-small : full < setLimit
 unfolding full

@@ -1,14 +1,13 @@
 -- One turn of the loop over third boards: a strike by one rule, after those before it. Assumes nothing.
 use mathlib.Core.Path.{_≡_, refl, sym, ap₂, _∙_, subst}
 use mathlib.Core.Bool.{true, false}
-use mathlib.Core.Logic.{⊎-elim, inl, inr}
-use mathlib.Core.List.{List, _++_}
+use mathlib.Core.Logic.{inl, inr}
+use mathlib.Core.List.{List}
 use Prim.Native.Nat.{ℕ, _+_, _*_, _<_}
-use native.Mathlib.Omega.{arith}
 use borrow.Author.Count.{below-more}
 use Rattle.rules.specs.Relations.{_liesWithin_, converse, compose}
 use Rattle.rules.specs.Tables.{cell, Inside}
-use Rattle.rules.specs.Closing.{Idle, boardsOf, rules2, rules3}
+use Rattle.rules.specs.Closing.{Idle, rules2, rules3}
 use Rattle.rules.proofs.Sets.{lies-trans}
 use Rattle.rules.proofs.Members.{one-all, append-left, append-right}
 use Rattle.rules.proofs.Composition.{compose-mono}
@@ -16,11 +15,11 @@ use Rattle.rules.proofs.Inside.{inside-trans}
 use Rattle.rules.proofs.Rules.{boards-all}
 use Rattle.passes.specs.Passes.{Idles}
 use Rattle.moves.specs.Watches.{through}
-use Rattle.moves.specs.Moves.{Marks, Mutual, Struck, Moved, Tended, Lost}
+use Rattle.moves.specs.Moves.{Struck, Moved, Tended, Lost}
 use Rattle.moves.proofs.Moving.{moved-then, lost-then, strike-moved, strike-lost, strike-within, tended-moved, moved-inside, lost-inside}
 use Rattle.moves.proofs.Passing.{turned}
 use Rattle.moves.proofs.Reading.{through-honest}
-use Rattle.sweeps.specs.Sweeps.{Evenly, ThroughEach}
+use Rattle.sweeps.specs.Sweeps.{Evenly}
 
 -- what rule 3 says of a table in which it strikes nothing
 pub composed : {v : ℕ} {x : List ℕ} {p q r : ℕ} → Idles v (rules3 v) x → p < v → q < v → r < v → cell v x p r liesWithin compose (cell v x p q) (cell v x q r)

@@ -1,7 +1,6 @@
 -- `attempt` meets its contract: the choice is struck, the cells are closed by the list, and the search goes on or back. Assumes nothing.
 use mathlib.Core.Path.{_≡_, sym, _∙_, subst}
 use Prim.Native.Nat.{ℕ, _<_}
-use native.Mathlib.Omega.{arith}
 use Rattle.rules.specs.Relations.{setLimit}
 use Rattle.rules.specs.Descriptions.{Sheet}
 use Rattle.orders.proofs.Picking.{pick-small}

@@ -1,12 +1,7 @@
 -- `rounds` meets its contract: what the list leaves is settled, and as many relations are struck as there are fewer. Assumes nothing.
-use mathlib.Core.Path.{_≡_, refl, sym, ap, _∙_, subst}
-use Prim.Native.Nat.{ℕ, _≤_}
-use native.Mathlib.Nat.{mul-le-mul}
+use mathlib.Core.Path.{subst}
 use native.Mathlib.Omega.{arith}
 use borrow.Author.Needs.{needs}
-use lib.ListN.{length, replicate, length-replicate}
-use Rattle.rules.specs.Descriptions.{mostBoards}
-use Rattle.rules.specs.Tables.{total}
 use Rattle.rules.proofs.Inside.{total-mono}
 use Rattle.moves.proofs.Striking.{not-so, not-not-so}
 use Rattle.rounds.specs.Rounds.{drained}

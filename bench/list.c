@@ -3,6 +3,16 @@
 #include "list_parts.h"
 #include "plain_closing.h"
 
+/* Each relation line's cell lies within its set. The lines have been tested before. */
+static void strike_lines(size_t v, size_t count, const uint16_t *words, uint8_t *cells)
+{
+    for (size_t i = 0; i < count; i++) {
+        const uint16_t *end = words + HEAD_WORDS + words[2];
+        narrow(&cells[v * words[0] + words[1]], (uint8_t)evaluate(words + HEAD_WORDS, end).set);
+        words = end;
+    }
+}
+
 /* The place of the first bit of some bits, which are not all 0. */
 static size_t first_of(uint32_t bits)
 {
@@ -242,7 +252,7 @@ int list_first(const struct header *h, const uint16_t *words, uint8_t *cells, ui
     size_t v = h->boards;
     const uint16_t *kinds = words + h->kinds_at;
     rules1(v, cells);
-    rules4(v, h->lines, words + HEADER_WORDS, h->kinds_at - HEADER_WORDS, cells);
+    strike_lines(v, h->lines, words + HEADER_WORDS, cells);
     rules5(v, h->kinds, kinds, cells);
     clear(marks);
     if (!mark_pairs(v, cells, marks))

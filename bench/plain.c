@@ -1,6 +1,21 @@
 /* Opening and closing a table in plain C by sweeps over all triples, round after round. */
 #include "plain_closing.h"
 
+/* Each relation line's cell lies within its set. Each line is tested again as it is read. */
+static int rules4(size_t v, size_t count, const uint16_t *words, size_t n, uint8_t *cells)
+{
+    int struck = 0;
+    size_t at = 0;
+    for (size_t i = 0; i < count; i++) {
+        struct relation_line line;
+        if (read_relation_line(v, words + at, n - at, &line).number)
+            return struck;
+        struck += narrow(&cells[v * line.p + line.q], line.allowed);
+        at += line.length;
+    }
+    return struck;
+}
+
 /* Each pair of boards is the same seen from both sides. */
 static int rules2(size_t v, uint8_t *cells)
 {

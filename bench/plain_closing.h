@@ -62,21 +62,6 @@ static int rules1(size_t v, uint8_t *cells)
     return struck;
 }
 
-/* Each relation line's cell lies within its set. */
-static int rules4(size_t v, size_t count, const uint16_t *words, size_t n, uint8_t *cells)
-{
-    int struck = 0;
-    size_t at = 0;
-    for (size_t i = 0; i < count; i++) {
-        struct relation_line line;
-        if (read_relation_line(v, words + at, n - at, &line).number)
-            return struck;
-        struck += narrow(&cells[v * line.p + line.q], line.allowed);
-        at += line.length;
-    }
-    return struck;
-}
-
 /* The ways of each kind line lie below its panel and beside each other. */
 static int rules5(size_t v, size_t count, const uint16_t *words, uint8_t *cells)
 {

@@ -6,7 +6,7 @@ ghost use lib.ListN.{length};
 ghost use Rattle.rules.specs.Relations.{setLimit};
 ghost use Rattle.rules.specs.Descriptions.{mostExpressionWords};
 ghost use Rattle.rules.specs.Expressions.{relation, codes, code, expression};
-ghost use Rattle.expressions.specs.Codes.{operands, unary, binary};
+ghost use Rattle.expressions.specs.Codes.{operands, unary, binary, Counts};
 ghost use Rattle.expressions.specs.Found.{expressionFound, scanFound};
 use answers::widths::word_number;
 
@@ -122,12 +122,31 @@ pub fn evaluate(words: &[u16]) -> Expression
     Expression::Set(apply_two(word, x, y), rest)
 }
 
-// How many operands a code takes, by its bits.
-fn operands_of(word: usize) -> u32
-    requires { ⌜ word < length codes ⌝ }
+// How many operands each code takes.
+const OPERANDS: [u8; CODES] = [
+    0, // the relations
+    0,
+    0,
+    0,
+    2, // union
+    2, // intersection
+    1, // complement
+    1, // inverse
+];
+
+// Gives how many operands the codes take. They are lent to `operands_of`, so that a loop lays them out once.
+fn operand_counts() -> [u8; CODES]
+    ensures { λ t. ⌜ Counts t ⌝ }
+{
+    OPERANDS
+}
+
+// How many operands a code takes, by those of all codes.
+fn operands_of(counts: &[u8; CODES], word: usize) -> u32
+    requires { ⌜ Counts (now counts) × (word < length codes) ⌝ }
     ensures { λ r. ⌜ r ≡ operands (code word) ⌝ }
 {
-    2 * ((OPERATORS >> word) % 2) - (ONE_OPERAND >> word) % 2
+    counts[word] as u32
 }
 
 // Tells whether the words are one whole expression, without its set: it counts the operands that are still needed. A code is one of these, and needs its own.
@@ -135,13 +154,14 @@ pub fn scan(words: &[u16]) -> Scanned
     requires { ⌜ length (now words) ≤ mostExpressionWords ⌝ }
     ensures { λ r. ⌜ r ≡ scanFound (expression (now (words .entry))) ⌝ }
 {
+    let counts = operand_counts();
     let mut needed: u32 = 1;
     for i in 0..words.len() {
         let word = word_number(words[i]);
         if needed == 0 || CODES <= word {
             return Scanned::Fails(words.len() - i);
         }
-        needed = needed - 1 + operands_of(word);
+        needed = needed - 1 + operands_of(&counts, word);
     }
     if needed == 0 {
         Scanned::Whole

@@ -88,15 +88,20 @@ module _ {X : Type 0} {v : ℕ} {R : Strikes} (s : Striking v R) {f : List X →
         go zero h (u ∷ us) ms e = never 3 0 ms e
         go (suc k) h us ms e = let z : ⊥ = omega arith in absurd z
 
+-- the line that is met, where some are to go
+pub line-met : {X : Type 0} (line : List ℕ → Reading (Front X)) (count : ℕ) (ws : List ℕ) → SomeFill line count ws → {at left : ℕ} → Walk line count ws at left
+    → 0 < left → (g : Front X) × (line (drop at ws) ≡ good g)
+line-met line count ws has {at} {left} w more =
+    let (rest, d, e) = walk-lines line count ws w (has .0) (has .1) in
+    let (g, f, ls, h) = section-met line left more (drop at ws) rest d in
+    (g, f)
+
 -- ---- kind lines
 
 module _ (v count : ℕ) (ws : List ℕ) (has : HasKinds v count ws) {at left : ℕ} (w : Walk (kindLine v) count ws at left) (more : 0 < left) where
   -- the kind line that is met, and where it stands
   pub kind-met : (g : Front KindLine) × (kindLine v (drop at ws) ≡ good g)
-  kind-met =
-      let (rest, d, e) = walk-lines (kindLine v) count ws w (has .0) (has .1) in
-      let (g, f, ls, h) = section-met (kindLine v) left more (drop at ws) rest d in
-      (g, f)
+  kind-met = line-met (kindLine v) count ws has w more
 
   pub met-at : ReadAt v ws at (kind-met .0)
   met-at = read-at v ws at (w .within) (kind-met .0) (kind-met .1)

@@ -1,4 +1,4 @@
--- What reading a relation line gives, by the definitions of a description. Assumes nothing.
+-- What testing a relation line tells, and what reading a good one finds, by the definitions of a description. Assumes nothing.
 use mathlib.Core.Path.{_≡_}
 use mathlib.Core.List.{List}
 use Prim.Native.Nat.{ℕ, _+_, _-_, _≤_, _<_}
@@ -7,17 +7,10 @@ use Rattle.rules.specs.Descriptions as descriptions
 use Rattle.rules.specs.Descriptions.{Reading, good, refused, Front, mostExpressionWords, relationLine}
 use Rattle.answers.specs.Answers.{refusal}
 use Rattle.lines.specs.declared.RelationLine.{RelationLine}
-use Rattle.lines.specs.declared.RelationFound.{RelationFound}
-use Rattle.lines.specs.declared.RelationFound.the-variants as relation
 use Rattle.lines.specs.declared.LineTold.{LineTold}
 use Rattle.lines.specs.declared.LineTold.the-variants as told
 use Rattle.lines.specs.declared.FrontFound.{FrontFound}
 use Rattle.lines.specs.declared.FrontFound.the-variants as front
-
--- a relation line, and the number of words after it
-abbrev pub relationFound : Reading (Front descriptions.RelationLine) → RelationFound
-relationFound (good f) = relation.Line (record { p = f .line .p; q = f .line .q; allowed = f .line .allowed }) (length (f .rest))
-relationFound (refused n k) = relation.Refused (refusal n k)
 
 -- the number of words after a relation line, without the line
 abbrev pub relationTold : Reading (Front descriptions.RelationLine) → LineTold
@@ -42,3 +35,15 @@ pub record Passes (v : ℕ) (ws : List ℕ) (end : ℕ) : Type 0 where
 abbrev pub FrontTells : ℕ → List ℕ → FrontFound → Type 0
 FrontTells v ws (front.Ends end) = Passes v ws end
 FrontTells v ws (front.Refused q) = relationLine v ws ≡ refused (q .number) (q .place)
+
+-- the line at the front of the words is good, for boards below some number
+abbrev pub GoodLine : List ℕ → Type 0
+GoodLine ws = (v : ℕ) × (f : Front descriptions.RelationLine) × (relationLine v ws ≡ good f)
+
+-- a relation line, and the number of words after it
+abbrev pub relationFound : Front descriptions.RelationLine → RelationLine
+relationFound f = record { p = f .line .p; q = f .line .q; allowed = f .line .allowed; rest = length (f .rest) }
+
+-- l is the line at the front of the words, whichever boards there are
+abbrev pub Finds : List ℕ → RelationLine → Type 0
+Finds ws l = (v : ℕ) (f : Front descriptions.RelationLine) → relationLine v ws ≡ good f → l ≡ relationFound f

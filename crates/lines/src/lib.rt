@@ -1,10 +1,10 @@
-// Relation lines, each read off the front of the words of its section.
+// Relation lines, each at the front of the words of its section: one is tested first, and read when it strikes.
 
 ghost use mathlib.Core.Path.{_≡_};
 ghost use Prim.Native.Nat.{_-_, _≤_};
 ghost use Rattle.rules.specs.Descriptions.{relationLine};
 ghost use Rattle.answers.specs.Answers.{refusal};
-ghost use Rattle.lines.specs.Found.{relationFound, relationTold, refusedFront, FrontTells};
+ghost use Rattle.lines.specs.Found.{relationTold, refusedFront, FrontTells, GoodLine, Finds};
 use answers::limits::LINE_WORDS;
 use answers::limits::MOST_EXPRESSION_WORDS;
 use answers::refusals::NO_BOARD;
@@ -15,17 +15,12 @@ use answers::widths::word_number;
 use expressions::Expression;
 use expressions::Scanned;
 
-// A relation line: the relation of p to q is one of the set `allowed`.
+// A relation line: the relation of p to q is one of the set `allowed`. So many words stand after it.
 pub struct RelationLine {
     pub p: usize,
     pub q: usize,
     pub allowed: u8,
-}
-
-// What reading a relation line finds: the line and the number of words after it, or why it is refused.
-pub enum RelationFound {
-    Line(RelationLine, usize),
-    Refused(Refusal),
+    pub rest: usize,
 }
 
 // What testing a relation line tells: the number of words after it, or why it is refused.
@@ -83,27 +78,6 @@ fn no_expression(end: usize, left: usize) -> Refusal
     }
 }
 
-// Reads the relation line at the front of the words, for boards below v.
-pub fn relation_line(v: usize, words: &[u16]) -> RelationFound
-    ensures { λ r. ⌜ r ≡ relationFound (relationLine v (now (words .entry))) ⌝ }
-{
-    let end = match front(v, words) {
-        FrontFound::Ends(end) => end,
-        FrontFound::Refused(r) => return RelationFound::Refused(r),
-    };
-    match expressions::evaluate(&words[LINE_WORDS..end]) {
-        Expression::Set(x, left) => {
-            if 0 < left {
-                return RelationFound::Refused(no_expression(end, left));
-            }
-            let p = word_number(words[0]);
-            let q = word_number(words[1]);
-            RelationFound::Line(RelationLine { p, q, allowed: x }, words.len() - end)
-        }
-        Expression::Malformed(left) => RelationFound::Refused(no_expression(end, left)),
-    }
-}
-
 // Tests the relation line at the front of the words, for boards below v, and counts the words after it. The set of its expression is not found.
 pub fn relation_told(v: usize, words: &[u16]) -> LineTold
     ensures { λ r. ⌜ r ≡ relationTold (relationLine v (now (words .entry))) ⌝ }
@@ -115,5 +89,23 @@ pub fn relation_told(v: usize, words: &[u16]) -> LineTold
     match expressions::scan(&words[LINE_WORDS..end]) {
         Scanned::Whole => LineTold::Rest(words.len() - end),
         Scanned::Fails(left) => LineTold::Refused(no_expression(end, left)),
+    }
+}
+
+// Reads the relation line at the front of the words, which was tested before and is good.
+pub fn relation_line(words: &[u16]) -> RelationLine
+    requires { ⌜ GoodLine (now words) ⌝ }
+    ensures { λ l. ⌜ Finds (now (words .entry)) l ⌝ }
+{
+    let end = LINE_WORDS + word_number(words[2]);
+    let allowed = match expressions::evaluate(&words[LINE_WORDS..end]) {
+        Expression::Set(x, _) => x,
+        Expression::Malformed(_) => 0,
+    };
+    RelationLine {
+        p: word_number(words[0]),
+        q: word_number(words[1]),
+        allowed,
+        rest: words.len() - end,
     }
 }

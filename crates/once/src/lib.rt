@@ -2,7 +2,6 @@
 ghost use Rattle.rules.specs.Closing.{rules1, rules4};
 ghost use Rattle.passes.specs.Passes.{Ready, Once};
 ghost use Rattle.kinds.specs.Sections.{HasLines, WithLines};
-use lines::RelationFound;
 use lines::relation_line;
 
 // Rule 1: each board is the same as itself.
@@ -18,7 +17,7 @@ pub fn rules1(v: usize, cells: &mut [u8]) -> u32
     struck
 }
 
-// Rule 4: each relation line's cell lies within its set. As many relation lines as `count` fill the words, so none of them is refused.
+// Rule 4: each relation line's cell lies within its set. As many relation lines as `count` fill the words, so each of them is good.
 pub fn rules4(v: usize, count: usize, words: &[u16], cells: &mut [u8]) -> u32
     requires { ⌜ Ready v (now cells) × HasLines v count (now words) ⌝ }
     ensures { λ n. ⌜ WithLines v count (now (words .entry)) (λ ls. Once v (rules4 ls) (now (cells .entry)) 0 (now (cells .exit)) n) ⌝ }
@@ -27,12 +26,10 @@ pub fn rules4(v: usize, count: usize, words: &[u16], cells: &mut [u8]) -> u32
     let mut at = 0;
     let mut left = count;
     while 0 < left {
-        let RelationFound::Line(line, rest) = relation_line(v, &words[at..]) else {
-            return struck;
-        };
+        let line = relation_line(&words[at..]);
         let k = v * line.p + line.q;
         struck += tables::narrow(cells, k, line.allowed);
-        at = words.len() - rest;
+        at = words.len() - line.rest;
         left -= 1;
     }
     struck

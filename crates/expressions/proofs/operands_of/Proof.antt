@@ -1,37 +1,19 @@
--- `operands_of` meets its contract: the bits of the codes tell how many operands each takes. Assumes nothing.
-use borrow.Author.Needs.{needs}
-use Prim.Native.Nat.{_<_}
+-- `operands_of` meets its contract: it reads what stands at the code. Assumes nothing.
 use native.Mathlib.Omega.{arith}
 use Rattle.rules.specs.Expressions.{codes}
-use Rattle.expressions.proofs.Codes.{operands-marked}
+use Rattle.expressions.proofs.Codes.{takes-few}
 use Rattle.expressions.proofs.operands_of.Statement.{statement}
 use Rattle.expressions.proofs.operands_of.Tie as tie
 
+element-copy-out-result : tie.Need-element-copy-out-result
+unfolding codes
+element-copy-out-result c = omega (arith, c .pre .0 .cells, c .pre .1)
+
 cast-result : tie.Need-cast-result
-unfolding codes
-cast-result c = let h : c .args .word < 8 = c .pre in search needs
-
-shr-result : tie.Need-shr-result
-unfolding codes
-shr-result c = let h : c .args .word < 8 = c .pre in search needs
-
-mul-result : tie.Need-mul-result
-mul-result c = search needs
-
-cast-result-2 : tie.Need-cast-result-2
-unfolding codes
-cast-result-2 c = let h : c .args .word < 8 = c .pre in search needs
-
-shr-result-2 : tie.Need-shr-result-2
-unfolding codes
-shr-result-2 c = let h : c .args .word < 8 = c .pre in search needs
-
-sub-result : tie.Need-sub-result
-sub-result c = omega (arith, operands-marked (c .args .word) (c .pre))
+cast-result c = let pre = c .before .pre in omega (arith, pre .0 .entry (c .before .args .word) (pre .1), takes-few (c .before .args .word) (pre .1))
 
 returns : tie.Need-returns
-returns c = omega (arith, operands-marked (c .args .word) (c .pre))
+returns c = let start = c .before in start .pre .0 .entry (start .args .word) (start .pre .1)
 
 pub operands-of-spec : {M : Type 1} → statement M
-operands-of-spec =
-    tie.close (tie.spec cast-result shr-result mul-result cast-result-2 shr-result-2 sub-result returns)
+operands-of-spec = tie.close (tie.spec element-copy-out-result cast-result returns)

@@ -15,14 +15,17 @@ use Rattle.expressions.proofs.scan.Statement.{statement}
 use Rattle.expressions.proofs.scan.Tie as tie
 
 abbrev Inv-loop : tie.InvT-loop
-Inv-loop words needed₀ i₀ i-end needed i =
+Inv-loop words counts needed₀ i₀ i-end needed i =
     (needing needed (drop i words) ≡ scanFound (expression words)) × (needed ≤ 1 + i) × (i ≤ length words)
 
 abbrev μ-loop : tie.MeasureT-loop
-μ-loop words needed₀ i₀ i-end needed i = length words - i
+μ-loop words counts needed₀ i₀ i-end needed i = length words - i
+
+operand-counts-requires : tie.Need-operand-counts-requires Inv-loop μ-loop
+operand-counts-requires c κs = search needs
 
 loop-holds : tie.Need-loop-holds Inv-loop μ-loop
-loop-holds c = (needing-one (c .before .args .words .now), omega arith, omega arith)
+loop-holds c = (needing-one (c .before .before .args .words .now), omega arith, omega arith)
 
 mul-word-number : tie.Need-mul-word-number Inv-loop μ-loop
 mul-word-number c = search needs
@@ -33,14 +36,14 @@ shared-slice-read-word-number c = search needs
 word-number-requires : tie.Need-word-number-requires Inv-loop μ-loop
 word-number-requires c κs = search needs
 
-sub-t13 : tie.Need-sub-t13 Inv-loop μ-loop
-sub-t13 c = search needs
+sub-t15 : tie.Need-sub-t15 Inv-loop μ-loop
+sub-t15 c = search needs
 
 returns : tie.Need-returns Inv-loop μ-loop
 unfolding codes
 returns c =
     let at = c .before .before .before .before in
-    let words = at .before .before .args .words .now in
+    let words = at .before .before .before .args .words .now in
     ⊎-elim (λ w. sym (needing-over words (at .loop .i) (omega arith) (at .loop .needed) (omega arith)))
     (λ w. sym (needing-unknown words (at .loop .i) (omega arith) (at .loop .needed) (c .before .word-number .result) (c .before .word-number .ensures) (omega tested)))
     (c .if1 .came)
@@ -51,14 +54,14 @@ sub-needed c = omega arith
 
 operands-of-requires : tie.Need-operands-of-requires Inv-loop μ-loop
 unfolding codes
-operands-of-requires c κs = search needs
+operands-of-requires c κs = (c .before .before .before .before .before .before .before .operand-counts .ensures, omega tested)
 
 add-needed : tie.Need-add-needed Inv-loop μ-loop
 unfolding codes
 add-needed c =
-    let at = c .before .before .before .before .before .before in
-    let few = takes-few (c .before .before .before .word-number .result) (omega tested) in
-    omega (arith, c .operands-of .ensures, few, at .loop .inv .1, at .before .before .pre)
+    let at = c .before .before .before .before .before .before .before in
+    let few = takes-few (c .before .before .before .before .word-number .result) (omega tested) in
+    omega (arith, c .operands-of .ensures, few, at .loop .inv .1, at .before .before .before .pre)
 
 add-i : tie.Need-add-i Inv-loop μ-loop
 add-i c = omega arith
@@ -69,23 +72,23 @@ loop-less c = omega arith
 loop-again : tie.Need-loop-again Inv-loop μ-loop
 unfolding codes
 loop-again c =
-    let at = c .before .before .before .before .before .before in
-    let word = c .before .before .before .word-number .result in
+    let at = c .before .before .before .before .before .before .before in
+    let word = c .before .before .before .before .word-number .result in
     let listed : word < length codes = omega tested in
     let few = takes-few word listed in
-    let next = needing-next (at .before .before .args .words .now) (at .loop .i) (omega arith) (at .loop .needed) word (c .before .before .if1 .left)
-    (c .before .before .before .word-number .ensures) listed in
+    let next = needing-next (at .before .before .before .args .words .now) (at .loop .i) (omega arith) (at .loop .needed) word (c .before .before .before .if1 .left)
+    (c .before .before .before .before .word-number .ensures) listed in
     (rw (c .operands-of .ensures) (next ∙ at .loop .inv .0), omega (arith, c .operands-of .ensures, few), omega arith)
 
 returns-2 : tie.Need-returns-2 Inv-loop μ-loop
 returns-2 c =
     let at = c .before .before in
-    sym (needing-none (at .before .before .args .words .now) (at .loop .i) (omega arith) (at .loop .needed) (c .if3 .taken)) ∙ at .loop .inv .0
+    sym (needing-none (at .before .before .before .args .words .now) (at .loop .i) (omega arith) (at .loop .needed) (c .if3 .taken)) ∙ at .loop .inv .0
 
 returns-3 : tie.Need-returns-3 Inv-loop μ-loop
 returns-3 c =
     let at = c .before .before in
-    sym (needing-some (at .before .before .args .words .now) (at .loop .i) (omega arith) (at .loop .needed) (c .if3 .left)) ∙ at .loop .inv .0
+    sym (needing-some (at .before .before .before .args .words .now) (at .loop .i) (omega arith) (at .loop .needed) (c .if3 .left)) ∙ at .loop .inv .0
 
 pub scan-spec : {M : Type 1} → statement M
 scan-spec =
@@ -93,11 +96,12 @@ scan-spec =
     (tie.spec
     Inv-loop
     μ-loop
+    operand-counts-requires
     loop-holds
     mul-word-number
     shared-slice-read-word-number
     word-number-requires
-    sub-t13
+    sub-t15
     returns
     sub-needed
     operands-of-requires

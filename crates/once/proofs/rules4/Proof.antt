@@ -1,15 +1,16 @@
--- `rules4` meets its contract: the cell of each relation line passed lies within its set. No line is refused,
--- since lines fill the words. The measure is the lines left. Assumes nothing.
-use mathlib.Core.Path.{sym, _∙_}
+-- `rules4` meets its contract: the cell of each relation line passed lies within its set. Each line that is met is good, since lines fill the words. The measure
+-- is the lines left. Assumes nothing.
 use borrow.Author.Needs.{needs}
+use Prim.Native.Nat.{_+_, _-_}
 use native.Mathlib.Omega.{arith}
+use lib.ListN.{length}
 use Rattle.rules.specs.Relations.{relations}
 use Rattle.rules.specs.Descriptions.{relationLine}
 use Rattle.rules.specs.Closing.{rule4, rules4}
 use Rattle.passes.specs.Passes.{Ready, Once}
 use Rattle.passes.proofs.Passes.{kept-few, place-few, ready-place, ready-kept}
 use Rattle.kinds.proofs.Passing.{once-strikes, Along, along-start, along-kept, along-end}
-use Rattle.once.proofs.Ruling.{ruling, Ruled, relation-ruled, relation-room, relation-next, relation-none, rule-strike}
+use Rattle.once.proofs.Ruling.{ruling, Ruled, relation-good, relation-ruled, relation-room, relation-next, rule-strike}
 use Rattle.once.proofs.rules4.Statement.{statement}
 use Rattle.once.proofs.rules4.Tie as tie
 
@@ -36,58 +37,42 @@ part-relation-line-end : tie.Need-part-relation-line-end Inv-loop μ-loop
 part-relation-line-end c = search needs
 
 relation-line-requires : tie.Need-relation-line-requires Inv-loop μ-loop
-relation-line-requires c κs = search needs
-
-enum-known-line : tie.Need-enum-known-line Inv-loop μ-loop
-enum-known-line c = search needs
-
-enum-told : tie.Need-enum-told Inv-loop μ-loop
-enum-told c = search needs
-
-same-length : tie.Need-same-length Inv-loop μ-loop
-same-length c =
-    let walk = c .before .before .before .before .before in
-    along-kept once-strikes (walk .loop .inv) (walk .before .before .before .pre .1) .inside .cells
-
-returns : tie.Need-returns Inv-loop μ-loop
-returns c ls e =
-    let test = c .before .before .before .before in
-    relation-none once-strikes (test .before .loop .inv) (test .loop-test .taken) (sym (c .enum-told .given .1) ∙ c .before .before .relation-line .ensures) e
+relation-line-requires c κs =
+    let test = c .before in
+    relation-good once-strikes (test .before .loop .inv) (test .before .before .before .before .pre .1) (test .loop-test .taken)
 
 -- the start, seen from where a line has been read; the table there, and the line
-abbrev start : tie.After-line Inv-loop μ-loop → tie.Start Inv-loop μ-loop
-start c = c .before .before .before .before .before .before .before .before
+module _ (c : tie.After-relation-line Inv-loop μ-loop) where
+  abbrev test : tie.In-loop Inv-loop μ-loop
+  test = c .before .before
 
-ready : (c : tie.After-line Inv-loop μ-loop) → Ready (start c .args .v) (c .before .before .before .before .before .loop .cells)
-ready c = ready-kept (start c .pre .0) (along-kept once-strikes (c .before .before .before .before .before .loop .inv) (start c .pre .1))
+  abbrev start : tie.Start Inv-loop μ-loop
+  start = test .before .before .before .before
 
-ruled : (c : tie.After-line Inv-loop μ-loop) → Ruled (start c .args .v) (ruling (c .line .given .0 .0))
-ruled c =
-    let test = c .before .before .before .before in
-    relation-ruled once-strikes (test .before .loop .inv) (test .loop-test .taken) (sym (c .line .given .1) ∙ c .before .before .relation-line .ensures)
+  ready : Ready (start .args .v) (test .before .loop .cells)
+  ready = ready-kept (start .pre .0) (along-kept once-strikes (test .before .loop .inv) (start .pre .1))
+
+  ruled : Ruled (start .args .v) (ruling (c .relation-line .result))
+  ruled = relation-ruled once-strikes (test .before .loop .inv) (start .pre .1) (test .loop-test .taken) (c .relation-line .ensures)
 
 mul-k : tie.Need-mul-k Inv-loop μ-loop
-mul-k c =
-    let line = ruled (c .before .before) in
-    omega (arith, place-few (start (c .before .before) .pre .0 .boards) (line .p-board) (line .q-board))
+mul-k c = omega (arith, place-few (start (c .before) .pre .0 .boards) (ruled (c .before) .p-board) (ruled (c .before) .q-board))
 
 add-k : tie.Need-add-k Inv-loop μ-loop
 add-k c =
-    let line = ruled (c .before .before .before) in
-    omega (arith, place-few (start (c .before .before .before) .pre .0 .boards) (line .p-board) (line .q-board))
+    let line = c .before .before in
+    omega (arith, place-few (start line .pre .0 .boards) (ruled line .p-board) (ruled line .q-board))
 
 narrow-requires : tie.Need-narrow-requires Inv-loop μ-loop
 unfolding relations
 narrow-requires c κs =
-    let line = ruled (c .before .before .before .before) in
-    let table = ready (c .before .before .before .before) in
-    (ready-place table (line .p-board) (line .q-board), table .table .small _, omega (arith, line .small))
+    let line = c .before .before .before in
+    (ready-place (ready line) (ruled line .p-board) (ruled line .q-board), ready line .table .small _, omega (arith, ruled line .small))
 
 sub-at : tie.Need-sub-at Inv-loop μ-loop
 sub-at c =
-    let read = c .before .before .before .before .before .before .before in
-    let test = read .before .before .before .before in
-    relation-room once-strikes (test .before .loop .inv) (test .loop-test .taken) (sym (read .line .given .1) ∙ read .before .before .relation-line .ensures)
+    let line = c .before .before .before .before .before .before .before in
+    relation-room once-strikes (test line .before .loop .inv) (start line .pre .1) (test line .loop-test .taken) (line .relation-line .ensures)
 
 sub-left : tie.Need-sub-left Inv-loop μ-loop
 sub-left c = search needs
@@ -95,24 +80,30 @@ sub-left c = search needs
 loop-less : tie.Need-loop-less Inv-loop μ-loop
 loop-less c = search needs
 
+-- its cell is struck
+struck : (c : tie.After-slice-known2 Inv-loop μ-loop) → let line = c .before .before .before .before .before .before in
+    Inv-loop (start line .args .v) (start line .args .count) (start line .args .words .now) (start line .args .cells .now) 0 0 (start line .args .count)
+    (c .before .before .narrow .last .0) (test line .before .loop .struck + c .before .before .narrow .result)
+    (length (start line .args .words .now) - line .relation-line .result .rest) (test line .before .loop .left - 1)
+struck c =
+    let line = c .before .before .before .before .before .before in
+    relation-next once-strikes (test line .before .loop .inv) (start line .pre .1) (test line .loop-test .taken) (line .relation-line .ensures) (start line .pre .0 .table)
+    (λ ls e. rule-strike (ready line) (ruled line) (c .before .before .narrow .ensures))
+
 loop-again : tie.Need-loop-again Inv-loop μ-loop
-loop-again c =
-    let read = c .before .before .before .before .before .before .before in
-    let test = read .before .before .before .before in
-    relation-next once-strikes (test .before .loop .inv) (test .loop-test .taken) (sym (read .line .given .1) ∙ read .before .before .relation-line .ensures)
-    (start read .pre .0 .table) (λ ls e. rule-strike (ready read) (ruled read) (c .before .before .narrow .ensures))
+loop-again c = struck (c .before)
 
 add-struck : tie.Need-add-struck Inv-loop μ-loop
 add-struck c =
-    let pre = start (c .before .before .before .before .before .before .before) .pre in
-    omega (arith, kept-few (pre .0) (along-kept once-strikes (loop-again c) (pre .1)))
+    let pre = start (c .before .before .before .before .before .before) .pre in
+    omega (arith, kept-few (pre .0) (along-kept once-strikes (struck c) (pre .1)))
 
-same-length-2 : tie.Need-same-length-2 Inv-loop μ-loop
-same-length-2 c = along-kept once-strikes (c .before .loop .inv) (c .before .before .before .before .pre .1) .inside .cells
+same-length : tie.Need-same-length Inv-loop μ-loop
+same-length c = along-kept once-strikes (c .before .loop .inv) (c .before .before .before .before .pre .1) .inside .cells
 
-returns-2 : tie.Need-returns-2 Inv-loop μ-loop
+returns : tie.Need-returns Inv-loop μ-loop
 unfolding rules4
-returns-2 c = along-end once-strikes (c .before .loop .inv) (c .loop-test .left)
+returns c = along-end once-strikes (c .before .loop .inv) (c .loop-test .left)
 
 pub rules4-spec : {M : Type 1} → statement M
 rules4-spec =
@@ -126,10 +117,6 @@ rules4-spec =
     part-relation-line-start
     part-relation-line-end
     relation-line-requires
-    enum-known-line
-    enum-told
-    same-length
-    returns
     mul-k
     add-k
     narrow-requires
@@ -138,5 +125,5 @@ rules4-spec =
     sub-left
     loop-less
     loop-again
-    same-length-2
-    returns-2)
+    same-length
+    returns)

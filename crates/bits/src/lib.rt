@@ -2,16 +2,18 @@
 ghost use mathlib.Core.Path.{_≡_};
 ghost use Prim.Native.Nat.{_<_};
 ghost use lib.Dec.{T};
+ghost use lib.ListN.{length};
 ghost use Rattle.rules.specs.Relations.{has};
-ghost use Rattle.bits.specs.Sets.{wordBits, added, removed, lowest};
+ghost use Rattle.bits.specs.Sets.{wordBits, addedAt, removed, lowest};
 use answers::widths::count_number;
 
-// The set with a number too, whether or not it had it.
-pub fn with(x: u32, i: usize) -> u32
-    requires { ⌜ i < wordBits ⌝ }
-    ensures { λ y. ⌜ y ≡ added x i ⌝ }
+// Puts a number into the set in word k, whether or not the set had it.
+pub fn put(words: &mut [u32], k: usize, i: usize)
+    requires { ⌜ (k < length (now words)) × (i < wordBits) ⌝ }
+    ensures { λ _. ⌜ now (words .exit) ≡ addedAt (now (words .entry)) k i ⌝ }
 {
-    x | (1 << i)
+    let was = words[k];
+    words[k] = was | (1 << i);
 }
 
 // The least number in the set, and the number of bits if the set is empty.

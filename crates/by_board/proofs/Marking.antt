@@ -12,7 +12,7 @@ use lib.Seq.{getD-set-same, getD-set-other}
 use Rattle.rules.specs.Relations.{has}
 use Rattle.rules.specs.Descriptions.{mostBoards, mostWays}
 use Rattle.rules.proofs.Tests.{or-T-right}
-use Rattle.bits.specs.Sets.{added}
+use Rattle.bits.specs.Sets.{added, addedAt}
 use Rattle.bits.proofs.Laws.{has-zero, has-added, added-small}
 use Rattle.by_board.specs.Found.{spotsAt, placesAt, startsAt, indexWords, Indexed}
 
@@ -73,7 +73,7 @@ module _ {xs : List ℕ} (p : Placed xs) where
 
   -- a line, n, and the place are told for a board
   pub placed-way : (n y i : ℕ) → y < mostBoards → i < mostWays → length xs ≡ indexWords
-      → let k = spotsAt + mostWays * y + i in let zs = set xs k (added (getD xs k 0) n) in Placed (set zs (placesAt + y) (added (getD zs (placesAt + y) 0) i))
+      → Placed (addedAt (addedAt xs (spotsAt + mostWays * y + i) n) (placesAt + y) i)
   placed-way n y i l m w =
       record {
         few = λ b h.
@@ -87,7 +87,7 @@ module _ {xs : List ℕ} (p : Placed xs) where
       k = spotsAt + mostWays * y + i
 
       zs : List ℕ
-      zs = set xs k (added (getD xs k 0) n)
+      zs = addedAt xs k n
 
       more : ℕ
       more = added (getD zs (placesAt + y) 0) i

@@ -11,7 +11,7 @@ use Rattle.rules.specs.Descriptions as descriptions
 use Rattle.rules.specs.Arrangements.{way, width}
 use Rattle.kinds.specs.declared.KindLine.{KindLine}
 use Rattle.kinds.specs.Lines.{kindAt, waysAt, lineAt, StandsIn}
-use Rattle.bits.specs.Sets.{added}
+use Rattle.bits.specs.Sets.{added, addedAt}
 use Rattle.by_board.specs.Found.{startOf, numbered, spotsAt, placesAt, startsAt, Begins, Indexed}
 use Rattle.by_board.proofs.Numbers.{numbered-stands, numbered-narrow, numbered-early}
 use Rattle.by_board.proofs.Marking.{Placed, indexed-placed, placed-apart, placed-way}
@@ -64,7 +64,7 @@ module _ {n : ℕ} {ws : List ℕ} {at : ℕ} (b : Begins n ws at) where
     line-next = ap (λ (l : KindLine). l .end) at-start ∙ sym (ap (startOf ws) (add-one n))
 
     -- it is told by panel, by each way in turn, and then where it begins
-    pub line-panel : {xs : List ℕ} → Indexed n ws xs → Turn ws n 0 (set xs (k .p) (added (getD xs (k .p) 0) n))
+    pub line-panel : {xs : List ℕ} → Indexed n ws xs → Turn ws n 0 (addedAt xs (k .p) n)
     line-panel {xs} t = (
       ways-none n (tell-panel (indexed-telling t) (k .p) (line-stands .board) (ap (λ (l : descriptions.KindLine). l .p) is-line)),
       placed-apart (indexed-placed t) (k .p) (added (getD xs (k .p) 0) n) (inl (line-stands .board)),
@@ -73,8 +73,7 @@ module _ {n : ℕ} {ws : List ℕ} {at : ℕ} (b : Begins n ws at) where
     module _ {xs : List ℕ} {i : ℕ} (t : Turn ws n i xs) where
       -- by a way, and by the way's place
       pub line-way : {y : ℕ} → i < length (waysAt ws k) → y ≡ getD (waysAt ws k) i 0
-          → let j = spotsAt + mostWays * y + i in let zs = set xs j (added (getD xs j 0) n) in
-          Turn ws n (i + 1) (set zs (placesAt + y) (added (getD zs (placesAt + y) 0) i))
+          → Turn ws n (i + 1) (addedAt (addedAt xs (spotsAt + mostWays * y + i) n) (placesAt + y) i)
       line-way {y} h e =
           let board : y < mostBoards = omega (arith, e, line-stands .boards i h) in
           let few : i < mostWays = omega (arith, line-narrow) in (

@@ -13,7 +13,7 @@ use Rattle.rules.specs.Descriptions.{mostBoards, mostKinds, mostWays}
 use Rattle.rules.specs.Arrangements.{way, width}
 use Rattle.rules.proofs.Members.{zeros}
 use Rattle.rules.proofs.Tests.{order-cases}
-use Rattle.bits.specs.Sets.{added}
+use Rattle.bits.specs.Sets.{added, addedAt}
 use Rattle.bits.proofs.Laws.{has-zero, has-added}
 use Rattle.by_board.specs.Found.{startOf, numbered, spotsAt, placesAt, startsAt, indexWords, Indexed}
 use Rattle.by_board.proofs.Marking.{put-other, put-cases, Placed, placed-none, placed-apart}
@@ -128,7 +128,7 @@ tell-place {ws} {xs} t y x l =
 module _ {ws xs : List ℕ} {n : ℕ} where
   -- it is told by panel
   pub tell-panel : {q : ℕ → ℕ} {s : ℕ} → Telling ws xs n q s → (p : ℕ) → p < mostBoards → numbered ws n .p ≡ p
-      → Telling ws (set xs p (added (getD xs p 0) n)) (n + 1) q s
+      → Telling ws (addedAt xs p n) (n + 1) q s
   tell-panel t p l e =
       let w = t .words in
       let x = added (getD xs p 0) n in
@@ -171,7 +171,7 @@ module _ {ws xs : List ℕ} (n : ℕ) {s : ℕ} where
 
   -- its way in place i is told
   pub tell-way : (i : ℕ) → Telling ws xs (n + 1) (upto n i) s → (y : ℕ) → y < mostBoards → i < mostWays → i < width (numbered ws n) → way (numbered ws n) i ≡ y
-      → let k = spotsAt + mostWays * y + i in Telling ws (set xs k (added (getD xs k 0) n)) (n + 1) (upto n (i + 1)) s
+      → let k = spotsAt + mostWays * y + i in Telling ws (addedAt xs k n) (n + 1) (upto n (i + 1)) s
   tell-way i t y l few in-line e =
       let w = t .words in
       let k = spotsAt + mostWays * y + i in

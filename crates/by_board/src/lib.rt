@@ -3,9 +3,8 @@
 // board a set of the places in which it is a way, and then where each line begins.
 ghost use mathlib.Core.Path.{_≡_};
 ghost use Prim.Native.Nat.{_+_, _*_, _<_};
-ghost use lib.ListN.{length, getD, set, replicate};
+ghost use lib.ListN.{length, getD, replicate};
 ghost use Rattle.rules.specs.Descriptions.{mostBoards, mostKinds, mostWays};
-ghost use Rattle.bits.specs.Sets.{wordBits, added};
 ghost use Rattle.by_board.specs.Found.{startOf, spotsAt, placesAt, startsAt, indexWords, Fitting, Begins, Indexed};
 use answers::limits::MOST_BOARDS;
 use answers::limits::MOST_KINDS;
@@ -33,29 +32,20 @@ pub fn index_room() -> [u32; INDEX_WORDS]
     [0; INDEX_WORDS]
 }
 
-// Puts the number n into the set in word k of the index.
-fn tell(found: &mut [u32], k: usize, n: usize)
-    requires { ⌜ (k < length (now found)) × (n < wordBits) ⌝ }
-    ensures { λ _. ⌜ now (found .exit) ≡ set (now (found .entry)) k (added (getD (now (found .entry)) k 0) n) ⌝ }
-{
-    let was = found[k];
-    found[k] = bits::with(was, n);
-}
-
 // Puts line n, which begins at the word `at`, into the index of the lines before it. Answers where the next line begins.
 fn put_line(words: &[u16], n: usize, at: usize, found: &mut [u32]) -> usize
     requires { ⌜ Begins n (now words) at × Indexed n (now words) (now found) ⌝ }
     ensures { λ r. ⌜ (r ≡ startOf (now (words .entry)) (n + 1)) × Indexed (n + 1) (now (words .entry)) (now (found .exit)) ⌝ }
 {
     let line = kind_at(words, at);
-    tell(found, line.p, n);
+    bits::put(found, line.p, n);
     let first = line.first;
     let end = line.end;
     let ways = &words[first..end];
     for i in 0..ways.len() {
         let y = way(ways, i);
-        tell(found, SPOTS_AT + MOST_WAYS * y + i, n);
-        tell(found, PLACES_AT + y, i);
+        bits::put(found, SPOTS_AT + MOST_WAYS * y + i, n);
+        bits::put(found, PLACES_AT + y, i);
     }
     found[STARTS_AT + n] = at as u32;
     end

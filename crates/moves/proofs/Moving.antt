@@ -13,19 +13,18 @@ use lib.Seq.{getD-set-same, getD-set-other}
 use Rattle.rules.specs.Relations.{same, E, has, setLimit, _liesWithin_, converse}
 use Rattle.rules.specs.Descriptions.{mostBoards}
 use Rattle.rules.specs.Tables.{cell, Table, Inside, emptied, total}
-use Rattle.rules.proofs.Tests.{order-cases, T-decide, T-not-not, T-or, or-T-left, or-T-right}
-use Rattle.rules.proofs.Sets.{lies-refl, lies-eq, lies-trans, lies-one, lies-zero, meet-small, meet-left, meet-right, meet-largest}
+use Rattle.rules.proofs.Tests.{order-cases, T-decide, T-differ, T-or, or-T-left, or-T-right}
+use Rattle.rules.proofs.Sets.{lies-refl, lies-eq, lies-trans, lies-one, meet-small, meet-left, meet-right, meet-largest}
 use Rattle.rules.proofs.Rules.{same-small}
 use Rattle.rules.proofs.Composition.{converse-small, converse-mono, converse-converse, converse-zero}
-use Rattle.rules.proofs.Inside.{in-range, inside-refl, inside-trans, total-tight, emptied-in, emptied-out}
-use Rattle.rules.proofs.Strikes.{set-each, set-back}
+use Rattle.rules.proofs.Inside.{inside-refl, inside-trans, total-tight, emptied-in, emptied-out}
+use Rattle.rules.proofs.Strikes.{set-each}
 use Rattle.passes.specs.Passes.{Filled}
-use Rattle.passes.proofs.Passes.{ready-place}
-use Rattle.bits.specs.Sets.{added}
+use Rattle.bits.specs.Sets.{added, addedAt}
 use Rattle.bits.proofs.Laws.{has-added, added-small, ones-added}
 use Rattle.moves.specs.Watches.{Watch, Honest}
-use Rattle.moves.specs.Moves.{Marks, listed, Off, marks, Mirrored, Mutual, keptOf, narrowedBoth, noted, Struck, Moved, Tended, Lost}
-use Rattle.moves.proofs.Striking.{equal-true}
+use Rattle.moves.specs.Moves.{Marks, listed, Off, marks, Mirrored, Mutual, writtenBoth, noted, keptOf, Struck, Moved, Tended, Lost}
+use Rattle.moves.proofs.Striking.{equal-true, written-here, written-there, written-back, put-some, put-lost}
 
 -- two pairs of boards with one place are one pair
 pub place-one : (v p q a b : ℕ) → q < v → b < v → v * p + q ≡ v * a + b → (p ≡ a) × (q ≡ b)
@@ -51,50 +50,45 @@ module _ (v p q b : ℕ) (t : List ℕ) where
   kept = keptOf v t p q b
 
   abbrev struck : List ℕ
-  struck = narrowedBoth v t p q b
+  struck = writtenBoth v t p q kept
 
   abbrev half : List ℕ
   half = set t (v * p + q) kept
 
-  pub long : length struck ≡ length t
+  long : length struck ≡ length t
   long = length-set half (v * q + p) (converse kept) ∙ length-set t (v * p + q) kept
 
   -- what holds of each cell, and of what is written, holds of each cell afterwards
-  pub both-each : (P : ℕ → ℕ → Type 0) → ((j : ℕ) → P j (getD t j 0)) → P (v * p + q) kept → P (v * q + p) (converse kept) → (j : ℕ) → P j (getD struck j 0)
+  both-each : (P : ℕ → ℕ → Type 0) → ((j : ℕ) → P j (getD t j 0)) → P (v * p + q) kept → P (v * q + p) (converse kept) → (j : ℕ) → P j (getD struck j 0)
   both-each P f g h = set-each P half (v * q + p) (converse kept) (set-each P t (v * p + q) kept f g) h
 
   -- a cell that is neither of the two
   pub both-other : (k : ℕ) → (k ≡ v * p + q → ⊥) → (k ≡ v * q + p → ⊥) → getD struck k 0 ≡ getD t k 0
   both-other k f g = getD-set-other half (v * q + p) k (converse kept) 0 g ∙ getD-set-other t (v * p + q) k kept 0 f
 
+  pub both-inside : converse kept liesWithin cell v t q p → Inside struck t
+  both-inside f =
+      record { cells = long; each = both-each (λ j x. x liesWithin getD t j 0) (λ j. lies-refl (getD t j 0)) (meet-left (cell v t p q) b) f }
+
+  pub both-table : Table v t → Table v struck
+  both-table r =
+      record {
+        cells = long ∙ r .cells;
+        small = both-each (λ j x. x < setLimit) (r .small) (meet-small (cell v t p q) b) (converse-small kept);
+      }
+
+  pub both-keeps : (x : List ℕ) → cell v x p q liesWithin kept → cell v x q p liesWithin converse (cell v x p q) → Inside x t → Inside x struck
+  both-keeps x f g i =
+      record { cells = i .cells ∙ sym long; each = both-each (λ j y. getD x j 0 liesWithin y) (i .each) f (lies-trans g (converse-mono f)) }
+
   module _ (u : Mutual v t) (hp : p < v) (hq : q < v) where
-    both-inside : Inside struck t
-    both-inside =
-        record {
-          cells = long;
-          each =
-              both-each (λ j x. x liesWithin getD t j 0) (λ j. lies-refl (getD t j 0)) (meet-left (cell v t p q) b)
-              (subst (λ (x : ℕ). converse kept liesWithin x) (sym (u .mirrored p q hp hq)) (converse-mono (meet-left (cell v t p q) b)));
-        }
-
-    both-table : Table v struck
-    both-table =
-        record {
-          cells = long ∙ u .ready .table .cells;
-          small = both-each (λ j x. x < setLimit) (u .ready .table .small) (meet-small (cell v t p q) b) (converse-small kept);
-        }
-
-    both-keeps : (x : List ℕ) → cell v x p q liesWithin b → cell v x q p liesWithin converse (cell v x p q) → Inside x t → Inside x struck
-    both-keeps x f g i =
-        let here : cell v x p q liesWithin kept = meet-largest (i .each (v * p + q)) f in
-        record { cells = i .cells ∙ sym long; each = both-each (λ j y. getD x j 0 liesWithin y) (i .each) here (lies-trans g (converse-mono here)) }
+    mutual-inside : Inside struck t
+    mutual-inside =
+        both-inside (subst (λ (x : ℕ). converse kept liesWithin x) (sym (u .mirrored p q hp hq)) (converse-mono (meet-left (cell v t p q) b)))
 
     -- where nothing changes
     both-same : kept ≡ cell v t p q → struck ≡ t
-    both-same c =
-        ap (λ (x : ℕ). set half (v * q + p) x) (ap converse c ∙ sym (u .mirrored p q hp hq))
-        ∙ ap (λ (y : List ℕ). set y (v * q + p) (cell v t q p)) (ap (λ (x : ℕ). set t (v * p + q) x) c ∙ set-back t (v * p + q))
-        ∙ set-back t (v * q + p)
+    both-same c = written-back v p q t (sym c) (u .mirrored p q hp hq ∙ ap converse (sym c))
 
     -- the cell still has a relation
     module _ (some : kept ≡ 0 → ⊥) where
@@ -107,6 +101,9 @@ module _ (v p q b : ℕ) (t : List ℕ) where
           lies-one same (meet-small (cell v t p q) b) same-small
           (lies-trans (meet-left (cell v t p q) b) (lies-eq (ap (λ (y : ℕ). cell v t p y) (sym e) ∙ u .selves p hp))) some
 
+      there : cell v struck q p ≡ converse kept
+      there = written-there kept (u .ready) hp hq
+
       here : cell v struck p q ≡ kept
       here = ⊎-elim one other (T-decide (eqb (v * p + q) (v * q + p)))
         where
@@ -114,19 +111,13 @@ module _ (v p q b : ℕ) (t : List ℕ) where
           one d =
               let e = eqb→eq (v * p + q) (v * q + p) d in
               let same : p ≡ q = place-one v p q q p hq hp e .0 in
-              ap (λ (k : ℕ). getD struck k 0) e ∙ getD-set-same half (v * q + p) (converse kept) 0 (subst (λ (n : ℕ). v * q + p < n) (sym (length-set t (v * p + q) kept)) (ready-place (u .ready) hq hp))
-              ∙ ap converse (itself same) ∙ turned-E ∙ sym (itself same)
+              ap (λ (k : ℕ). getD struck k 0) e ∙ there ∙ ap converse (itself same) ∙ turned-E ∙ sym (itself same)
             where
               turned-E : converse E ≡ E
               turned-E = ap converse (sym (u .selves p hp)) ∙ sym (u .mirrored p p hp hp) ∙ u .selves p hp
 
           other : T (not (eqb (v * p + q) (v * q + p))) → cell v struck p q ≡ kept
-          other d =
-              getD-set-other half (v * q + p) (v * p + q) (converse kept) 0 (λ e. T-not (eqb (v * p + q) (v * q + p)) d (subst (λ (k : ℕ). T (eqb (v * p + q) k)) e (eqb-refl (v * p + q))))
-              ∙ getD-set-same t (v * p + q) kept 0 (ready-place (u .ready) hp hq)
-
-      there : cell v struck q p ≡ converse kept
-      there = getD-set-same half (v * q + p) (converse kept) 0 (subst (λ (n : ℕ). v * q + p < n) (sym (length-set t (v * p + q) kept)) (ready-place (u .ready) hq hp))
+          other d = written-here kept (u .ready) hp hq (T-differ d)
 
       both-mirrored : Mirrored v struck
       both-mirrored a b′ ha hb =
@@ -149,13 +140,10 @@ module _ (v p q b : ℕ) (t : List ℕ) where
           other d d′ =
               both-other (v * b′ + a) (λ e. let (f, g) = place-one v b′ a p q ha hq e in T-not (eqb (v * a + b′) (v * q + p)) d′ (back g f))
               (λ e. let (f, g) = place-one v b′ a q p ha hp e in T-not (eqb (v * a + b′) (v * p + q)) d (back g f))
-              ∙ u .mirrored a b′ ha hb ∙ ap converse (sym (both-other (v * a + b′) (apart d) (apart d′)))
+              ∙ u .mirrored a b′ ha hb ∙ ap converse (sym (both-other (v * a + b′) (T-differ d) (T-differ d′)))
             where
               back : {c d : ℕ} → a ≡ c → b′ ≡ d → T (eqb (v * a + b′) (v * c + d))
               back {c} {d} f g = subst (λ (k : ℕ). T (eqb (v * a + b′) (v * k + d))) f (subst (λ (k : ℕ). T (eqb (v * a + b′) (v * a + k))) g (eqb-refl (v * a + b′)))
-
-              apart : {k : ℕ} → T (not (eqb (v * a + b′) k)) → v * a + b′ ≡ k → ⊥
-              apart {k} d e = T-not (eqb (v * a + b′) k) d (subst (λ (y : ℕ). T (eqb (v * a + b′) y)) e (eqb-refl (v * a + b′)))
 
       both-filled : Filled struck
       both-filled = not-T (emptied struck) (λ e. from (emptied-out struck e))
@@ -183,14 +171,11 @@ module _ (v p q b : ℕ) (t : List ℕ) where
               ap (λ (k : ℕ). getD struck k 0) (e ∙ ap (λ (y : ℕ). v * y + p) (sym same) ∙ ap (λ (y : ℕ). v * p + y) same) ∙ here ∙ itself same
 
           other : T (not (eqb (v * a + a) (v * p + q))) → T (not (eqb (v * a + a) (v * q + p))) → cell v struck a a ≡ E
-          other d d′ = both-other (v * a + a) (apart d) (apart d′) ∙ u .selves a ha
-            where
-              apart : {k : ℕ} → T (not (eqb (v * a + a) k)) → v * a + a ≡ k → ⊥
-              apart {k} d e = T-not (eqb (v * a + a) k) d (subst (λ (y : ℕ). T (eqb (v * a + a) y)) e (eqb-refl (v * a + a)))
+          other d d′ = both-other (v * a + a) (T-differ d) (T-differ d′) ∙ u .selves a ha
 
       both-mutual : Mutual v struck
       both-mutual =
-          record { ready = record { boards = u .ready .boards; table = both-table }; mirrored = both-mirrored; selves = both-selves; filled = both-filled }
+          record { ready = record { boards = u .ready .boards; table = both-table (u .ready .table) }; mirrored = both-mirrored; selves = both-selves; filled = both-filled }
 
 -- ---- pairs on the list
 
@@ -216,7 +201,7 @@ off-neither {v} {m} {p} {q} hp hq f g =
 
 module _ (v p q : ℕ) (m : List ℕ) (l : Marks v m) (hv : v ≤ mostBoards) (hp : p < v) (hq : q < v) where
   abbrev more : List ℕ
-  more = set m p (added (getD m p 0) q)
+  more = addedAt m p q
 
   inside-words : p < length m
   inside-words = let e : length m ≡ mostBoards = l .words in omega arith
@@ -272,14 +257,11 @@ module _ {C : List ℕ → Type 0} {v : ℕ} where
   -- A strike at (p, q) by the set b, if every table that is to be kept lies within b there and is turned.
   module _ {p q b : ℕ} {t m w n : List ℕ} (u : Mutual v t) (l : Marks v m) (hp : p < v) (hq : q < v)
       (c : (x : List ℕ) → C x → (cell v x p q liesWithin b) × (cell v x q p liesWithin converse (cell v x p q))) where
-    told-some : Struck v p q b t m w n true → keptOf v t p q b ≡ 0 → ⊥
-    told-some s e = subst T (s .told ∙ ap (λ (x : ℕ). not (eqb x 0)) e) tt
-
     pub strike-moved : Struck v p q b t m w n true → Moved C v t m w n
     strike-moved s = go (eqb (keptOf v t p q b) (cell v t p q)) refl
       where
         some : keptOf v t p q b ≡ 0 → ⊥
-        some = told-some s
+        some = put-some s
 
         go : (z : Bool) → eqb (keptOf v t p q b) (cell v t p q) ≡ z → Moved C v t m w n
         go true e =
@@ -288,38 +270,35 @@ module _ {C : List ℕ → Type 0} {v : ℕ} where
             let kept : m ≡ n = sym (s .list ∙ ap (λ (z : Bool). noted z m p q) e) in
             subst (λ (y : List ℕ). Moved C v t m y n) same (subst (λ (k : List ℕ). Moved C v t m t k) kept (moved-none u l))
         go false e =
-            subst (λ (y : List ℕ). Moved C v t m y n) (sym (s .cells)) (subst (λ (k : List ℕ). Moved C v t m (narrowedBoth v t p q b) k) (sym (s .list ∙ ap (λ (z : Bool). noted z m p q) e)) changed)
+            subst (λ (y : List ℕ). Moved C v t m y n) (sym (s .cells)) (subst (λ (k : List ℕ). Moved C v t m (struck v p q b t) k) (sym (s .list ∙ ap (λ (z : Bool). noted z m p q) e)) changed)
           where
-            less : total (narrowedBoth v t p q b) < total t
-            less = ⊎-elim (λ x. x) (⊎-elim (λ x. absurd (unchanged (omega arith))) (λ x. absurd (unchanged (omega arith)))) (order-cases (total (narrowedBoth v t p q b)) (total t))
+            less : total (struck v p q b t) < total t
+            less = ⊎-elim (λ x. x) (⊎-elim (λ x. absurd (unchanged (omega arith))) (λ x. absurd (unchanged (omega arith)))) (order-cases (total (struck v p q b t)) (total t))
               where
-                unchanged : total t ≤ total (narrowedBoth v t p q b) → ⊥
+                unchanged : total t ≤ total (struck v p q b t) → ⊥
                 unchanged k =
-                    let same = total-tight (both-table v p q b t u hp hq) (u .ready .table) (both-inside v p q b t u hp hq) k in
+                    let same = total-tight (both-table v p q b t (u .ready .table)) (u .ready .table) (mutual-inside v p q b t u hp hq) k in
                     let eq : keptOf v t p q b ≡ cell v t p q = sym (here v p q b t u hp hq some) ∙ ap (λ (y : List ℕ). cell v y p q) same in
                     subst T (sym (equal-true eq) ∙ e) tt
 
-            changed : Moved C v t m (narrowedBoth v t p q b) (set m p (added (getD m p 0) q))
+            changed : Moved C v t m (struck v p q b t) (addedAt m p q)
             changed =
                 record {
                   fit = both-mutual v p q b t u hp hq some;
-                  inside = both-inside v p q b t u hp hq;
-                  keeps = λ x d i. both-keeps v p q b t u hp hq x (c x d .0) (c x d .1) i;
+                  inside = mutual-inside v p q b t u hp hq;
+                  keeps = λ x d i. both-keeps v p q b t x (meet-largest (i .each (v * p + q)) (c x d .0)) (c x d .1) i;
                   list = noted-list v p q m l (u .ready .boards) hp hq;
                   off = λ a d o. let (f, g, h) = noted-off v p q m l (u .ready .boards) hp hq o in (f, both-other v p q b t (v * a + d) g h);
                   fewer = omega (arith, less, noted-few v p q m l (u .ready .boards) hp hq);
                 }
 
     pub strike-lost : Struck v p q b t m w n false → Lost C v t
-    strike-lost s x h d i =
-        let none : keptOf v t p q b ≡ 0 = eqb→eq (keptOf v t p q b) 0 (T-not-not (eqb (keptOf v t p q b) 0) (λ e. subst T (sym (s .told)) e)) in
-        emptied-in x (v * p + q) (subst (λ (n : ℕ). v * p + q < n) (sym (h .cells)) (in-range v p q hp hq))
-        (lies-zero (h .small (v * p + q)) (subst (λ (y : ℕ). cell v x p q liesWithin y) none (meet-largest (i .each (v * p + q)) (c x d .0))))
+    strike-lost s x h d i = put-lost s hp hq h (meet-largest (i .each (v * p + q)) (c x d .0))
 
     pub strike-within : Struck v p q b t m w n true → cell v w p q liesWithin b
     strike-within s =
         subst (λ (y : List ℕ). cell v y p q liesWithin b) (sym (s .cells))
-        (subst (λ (y : ℕ). y liesWithin b) (sym (here v p q b t u hp hq (told-some s))) (meet-right (cell v t p q) b))
+        (subst (λ (y : ℕ). y liesWithin b) (sym (here v p q b t u hp hq (put-some s))) (meet-right (cell v t p q) b))
 
   -- ---- rules that are tended
 

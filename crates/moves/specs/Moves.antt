@@ -12,7 +12,7 @@ use Rattle.rules.specs.Tables.{cell, Table, Inside, emptied, total}
 use Rattle.rules.specs.Arrangements.{width}
 use Rattle.rules.specs.Closing.{Idle, agree}
 use Rattle.passes.specs.Passes.{Filled, Ready}
-use Rattle.bits.specs.Sets.{added}
+use Rattle.bits.specs.Sets.{addedAt}
 use Rattle.moves.specs.Watches.{Watch, through, feeds, feeds′, apart, matches, matches′}
 
 -- The list has a word for each board, with a bit for each other board.
@@ -52,24 +52,29 @@ pub record Mutual (v : ℕ) (t : List ℕ) : Type 0 where
   pub selves : (p : ℕ) → p < v → cell v t p p ≡ E
   pub filled : Filled t
 
+-- the table with x in (p, q), and turned in (q, p)
+abbrev pub writtenBoth : ℕ → List ℕ → ℕ → ℕ → ℕ → List ℕ
+writtenBoth v t p q x = set (set t (v * p + q) x) (v * q + p) (converse x)
+
+-- the list with the pair on it, or as it was where that is idle
+abbrev pub noted : Bool → List ℕ → ℕ → ℕ → List ℕ
+noted true m p q = m
+noted false m p q = addedAt m p q
+
+-- Table and list went from t and m to w and n: x stands in (p, q) and turned in (q, p), the pair is on the list unless that is idle, and it was told whether x
+-- has a relation.
+pub record PairPut (idle : Bool) (v p q x : ℕ) (t m w n : List ℕ) (some : Bool) : Type 0 where
+  pub cells : w ≡ writtenBoth v t p q x
+  pub list : n ≡ noted idle m p q
+  pub told : some ≡ not (eqb x 0)
+
 -- what a cell keeps of a set
 abbrev pub keptOf : ℕ → List ℕ → ℕ → ℕ → ℕ → ℕ
 keptOf v t p q b = meet (cell v t p q) b
 
--- the table with (p, q) narrowed to what b has too, and (q, p) turned alike
-abbrev pub narrowedBoth : ℕ → List ℕ → ℕ → ℕ → ℕ → List ℕ
-narrowedBoth v t p q b = set (set t (v * p + q) (keptOf v t p q b)) (v * q + p) (converse (keptOf v t p q b))
-
--- the list with the pair on it, where the cell has changed
-abbrev pub noted : Bool → List ℕ → ℕ → ℕ → List ℕ
-noted true m p q = m
-noted false m p q = set m p (added (getD m p 0) q)
-
--- A strike at (p, q) by the set b took table and list from t and m to w and n, and says whether the cell still has a relation.
-pub record Struck (v p q b : ℕ) (t m w n : List ℕ) (some : Bool) : Type 0 where
-  pub cells : w ≡ narrowedBoth v t p q b
-  pub list : n ≡ noted (eqb (keptOf v t p q b) (cell v t p q)) m p q
-  pub told : some ≡ not (eqb (keptOf v t p q b) 0)
+-- A strike at (p, q) by the set b took table and list from t and m to w and n, and says whether the cell still has a relation. It is idle where the cell keeps all.
+abbrev pub Struck : ℕ → ℕ → ℕ → ℕ → List ℕ → List ℕ → List ℕ → List ℕ → Bool → Type 0
+Struck v p q b t m w n some = PairPut (eqb (keptOf v t p q b) (cell v t p q)) v p q (keptOf v t p q b) t m w n some
 
 -- Work took table and list from t and m to w and n: no table inside t of which C holds is lost, each pair that is not on the list was not on it and has kept
 -- its cell, and each mark that came cost a relation.

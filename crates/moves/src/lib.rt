@@ -1,10 +1,12 @@
 // A cell narrowed from both sides, with the list of pairs that lost something: a word for each board, with a bit for each other board.
 ghost use mathlib.Core.Path.{_≡_};
+ghost use mathlib.Core.Bool.{false};
 ghost use Prim.Native.Nat.{_<_, _≤_};
 ghost use lib.ListN.{length, replicate};
 ghost use Rattle.rules.specs.Descriptions.{mostBoards};
 ghost use Rattle.rules.specs.Relations.{setLimit};
-ghost use Rattle.moves.specs.Moves.{Marks, Mutual, Struck, FirstMarked};
+ghost use Rattle.passes.specs.Passes.{Ready};
+ghost use Rattle.moves.specs.Moves.{Marks, Mutual, PairPut, Struck, FirstMarked};
 use answers::limits::MOST_BOARDS;
 
 // Room for a list, with nothing on it.
@@ -38,6 +40,21 @@ pub fn first_marked(v: usize, marks: &[u32]) -> usize
     v
 }
 
+// Writes a set to the cell of two boards, and its converse to the cell of the same two seen from the other side. The pair is put on the list. Says whether the
+// set has a relation.
+pub fn put_pair(v: usize, p: usize, q: usize, is: u8, cells: &mut [u8], marks: &mut [u32]) -> bool
+    requires { ⌜ Ready v (now cells) × Marks v (now marks) × (p < v) × (q < v) × (is < setLimit) ⌝ }
+    ensures { λ some. ⌜ PairPut false v p q is (now (cells .entry)) (now (marks .entry)) (now (cells .exit)) (now (marks .exit)) some ⌝ }
+{
+    let entries = relations::converse_table();
+    let k = v * p + q;
+    let l = v * q + p;
+    cells[k] = is;
+    cells[l] = relations::converse(&entries, is);
+    bits::put(marks, p, q);
+    is != 0
+}
+
 // Narrows the cell of two boards to what the bound has too, and the cell of the same two seen from the other side alike. If that strikes anything, the pair
 // is put on the list. Says whether the cell still has a relation.
 pub fn strike(v: usize, p: usize, q: usize, bound: u8, cells: &mut [u8], marks: &mut [u32]) -> bool
@@ -50,10 +67,5 @@ pub fn strike(v: usize, p: usize, q: usize, bound: u8, cells: &mut [u8], marks: 
     if is == was {
         return true;
     }
-    let entries = relations::converse_table();
-    let l = v * q + p;
-    cells[k] = is;
-    cells[l] = relations::converse(&entries, is);
-    marks[p] = bits::with(marks[p], q);
-    is != 0
+    put_pair(v, p, q, is, cells, marks)
 }

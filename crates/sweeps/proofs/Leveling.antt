@@ -1,30 +1,26 @@
 -- Rule 2 of two boards, of a board and those after it, and of all: one pair after the other, and what is left. Assumes nothing.
-use mathlib.Core.Path.{_≡_, refl, sym, ap, ap₂, _∙_, subst}
-use mathlib.Core.Bool.{Bool, true, false, not}
+use mathlib.Core.Path.{_≡_, refl, sym, ap, _∙_, subst}
+use mathlib.Core.Bool.{Bool, true, false}
 use mathlib.Core.Logic.{⊎-elim, _⊎_, inl, inr}
 use mathlib.Core.List.{List}
 use Prim.Native.Nat.{ℕ, _+_, _*_, _<_}
 use native.Mathlib.Omega.{arith}
 use lib.Dec.{T, eqb, eqb→eq, not-T}
-use lib.ListN.{length, getD, set, length-set}
-use lib.Seq.{getD-set-same, getD-set-other}
+use lib.ListN.{length, getD}
 use Rattle.rules.specs.Relations.{relations, E, same, opposite, has, setTo, setOf, full, setLimit, _liesWithin_, converse}
-use Rattle.rules.specs.Tables.{cell, Table, Inside, emptied}
+use Rattle.rules.specs.Tables.{cell, Inside, emptied}
 use Rattle.rules.specs.Closing.{rules2}
-use Rattle.rules.proofs.Tests.{order-cases, T-decide, T-not-not, T-differ}
+use Rattle.rules.proofs.Tests.{order-cases, T-decide, T-differ}
 use Rattle.rules.proofs.Digits.{has-zero, has-single}
-use Rattle.rules.proofs.Sets.{setOf-small, lies-refl, lies-trans, lies-antisym, lies-full, lies-zero, lies-one, meet-small, meet-left, meet-right, meet-largest}
+use Rattle.rules.proofs.Sets.{setOf-small, lies-trans, lies-antisym, lies-full, lies-one, meet-left, meet-right, meet-largest}
 use Rattle.rules.proofs.Composition.{converse-small, converse-mono, converse-converse, converse-single, converse-zero}
 use Rattle.rules.proofs.Rules.{same-small}
-use Rattle.rules.proofs.Inside.{in-range, each-place, inside-refl, inside-trans, emptied-in, emptied-out}
-use Rattle.rules.proofs.Strikes.{set-back}
+use Rattle.rules.proofs.Inside.{each-place, inside-refl, inside-trans, emptied-out}
 use Rattle.passes.specs.Passes.{Filled, Idles, Ready}
-use Rattle.passes.proofs.Passes.{ready-place}
-use Rattle.bits.specs.Sets.{added}
-use Rattle.moves.specs.Moves.{Marks, Off, Mirrored, narrowedBoth, noted, Lost}
-use Rattle.moves.proofs.Striking.{equal-true, unequal-false}
+use Rattle.moves.specs.Moves.{Marks, Off, Mirrored, writtenBoth, noted, Lost}
+use Rattle.moves.proofs.Striking.{equal-true, within-none, written-here, written-there, put-idle, put-some, put-lost}
 use Rattle.moves.proofs.Passing.{turned}
-use Rattle.moves.proofs.Moving.{place-one, long, both-each, both-other, noted-list, noted-off, noted-here, off-mirror, off-both}
+use Rattle.moves.proofs.Moving.{place-one, both-inside, both-table, both-keeps, both-other, noted-list, noted-off, noted-here, off-mirror, off-both}
 use Rattle.sweeps.specs.Sweeps.{Selves, allowed, Level, Sided, Sides, Noted}
 
 full-small : full < setLimit
@@ -51,33 +47,16 @@ full-some e = subst T (has-zero same) (subst (λ (x : ℕ). T (has x same)) e (l
 all-full : {x : ℕ} → x < setLimit → full liesWithin x → x ≡ full
 all-full {x} h f = lies-antisym h full-small (lies-full x) f
 
-module _ {v p q : ℕ} {t m : List ℕ} (r : Ready v t) where
-  pub level-not : {is : ℕ} → is ≡ allowed v t p q → is ≡ full → Level v p q t m t m true
-  level-not {is} e f =
-      let c : allowed v t p q ≡ full = sym e ∙ f in
-      let here : cell v t p q ≡ full =
-      all-full (r .table .small _) (subst (λ (x : ℕ). x liesWithin cell v t p q) c (meet-left (cell v t p q) (converse (cell v t q p)))) in
-      let side : converse (cell v t q p) ≡ full =
-      all-full (converse-small (cell v t q p)) (subst (λ (x : ℕ). x liesWithin converse (cell v t q p)) c (meet-right (cell v t p q) (converse (cell v t q p)))) in
-      let there : cell v t q p ≡ full = sym (converse-converse (cell v t q p) (r .table .small _)) ∙ ap converse side ∙ turned-full in
-      record {
-        cells =
-            sym
-            (ap₂ (λ (x : List ℕ) (y : ℕ). set x (v * q + p) y)
-            (ap (λ (x : ℕ). set t (v * p + q) x) (c ∙ sym here) ∙ set-back t (v * p + q)) (ap converse c ∙ turned-full ∙ sym there)
-            ∙ set-back t (v * q + p));
-        list = sym (ap (λ (z : Bool). noted z m p q) (equal-true c));
-        told = sym (ap not (unequal-false (λ z. full-some (sym c ∙ z))));
-      }
-
-  pub level-so : {is side word : ℕ} {some : Bool} → is ≡ allowed v t p q → (is ≡ full → ⊥) → side ≡ converse is → word ≡ added (getD m p 0) q → some ≡ not (eqb is 0)
-      → Level v p q t m (set (set t (v * p + q) is) (v * q + p) side) (set m p word) some
-  level-so {is} e f g h s =
-      record {
-        cells = ap₂ (λ (x y : ℕ). set (set t (v * p + q) x) (v * q + p) y) e (g ∙ ap converse e);
-        list = ap (λ (x : ℕ). set m p x) h ∙ sym (ap (λ (z : Bool). noted z m p q) (unequal-false (λ z. f (e ∙ z))));
-        told = s ∙ ap (λ (x : ℕ). not (eqb x 0)) e;
-      }
+-- two boards of which all is allowed
+pub level-not : {v p q is : ℕ} {t m : List ℕ} → Ready v t → is ≡ allowed v t p q → is ≡ full → Level v p q t m t m true
+level-not {v} {p} {q} {is} {t} r e f =
+    let c : allowed v t p q ≡ full = sym e ∙ f in
+    let here : cell v t p q ≡ full =
+    all-full (r .table .small _) (subst (λ (x : ℕ). x liesWithin cell v t p q) c (meet-left (cell v t p q) (converse (cell v t q p)))) in
+    let side : converse (cell v t q p) ≡ full =
+    all-full (converse-small (cell v t q p)) (subst (λ (x : ℕ). x liesWithin converse (cell v t q p)) c (meet-right (cell v t p q) (converse (cell v t q p)))) in
+    let there : cell v t q p ≡ full = sym (converse-converse (cell v t q p) (r .table .small _)) ∙ ap converse side ∙ turned-full in
+    put-idle (here ∙ sym c) (there ∙ sym (ap converse c ∙ turned-full)) (λ z. full-some (sym c ∙ z)) (equal-true c)
 
 -- ---- one pair
 
@@ -92,62 +71,35 @@ module _ (v p q : ℕ) (t : List ℕ) (r : Ready v t) (less : p < q) (hq : q < v
   bound = converse (cell v t q p)
 
   abbrev after : List ℕ
-  after = narrowedBoth v t p q bound
+  after = writtenBoth v t p q kept
 
   sides : v * p + q ≡ v * q + p → ⊥
   sides e = let f : p ≡ q = place-one v p q q p hq hp e .0 in let z : ⊥ = omega arith in z
 
   here : cell v after p q ≡ kept
-  here = getD-set-other (set t (v * p + q) kept) (v * q + p) (v * p + q) (converse kept) 0 sides ∙ getD-set-same t (v * p + q) kept 0 (ready-place r hp hq)
+  here = written-here kept r hp hq sides
 
   there : cell v after q p ≡ converse kept
-  there =
-      getD-set-same (set t (v * p + q) kept) (v * q + p) (converse kept) 0
-      (subst (λ (n : ℕ). v * q + p < n) (sym (length-set t (v * p + q) kept)) (ready-place r hq hp))
+  there = written-there kept r hp hq
 
   after-inside : Inside after t
   after-inside =
-      record {
-        cells = long v p q bound t;
-        each =
-            both-each v p q bound t (λ j x. x liesWithin getD t j 0) (λ j. lies-refl (getD t j 0)) (meet-left (cell v t p q) bound)
-            (subst (λ (x : ℕ). converse kept liesWithin x) (converse-converse (cell v t q p) (r .table .small _)) (converse-mono (meet-right (cell v t p q) bound)));
-      }
-
-  after-table : Table v after
-  after-table =
-      record {
-        cells = long v p q bound t ∙ r .table .cells;
-        small = both-each v p q bound t (λ j x. x < setLimit) (r .table .small) (meet-small (cell v t p q) bound) (converse-small kept);
-      }
+      both-inside v p q bound t
+      (subst (λ (x : ℕ). converse kept liesWithin x) (converse-converse (cell v t q p) (r .table .small _)) (converse-mono (meet-right (cell v t p q) bound)))
 
   -- what rule 2 allows
   within : (x : List ℕ) → Idles v (rules2 v) x → Inside x t → cell v x p q liesWithin kept
   within x d i = meet-largest (i .each (v * p + q)) (lies-trans (turned v x d q p hq hp) (converse-mono (i .each (v * q + p))))
 
-  after-keeps : (x : List ℕ) → Idles v (rules2 v) x → Inside x t → Inside x after
-  after-keeps x d i =
-      let f = within x d i in
-      record {
-        cells = i .cells ∙ sym (long v p q bound t);
-        each = both-each v p q bound t (λ j y. getD x j 0 liesWithin y) (i .each) f (lies-trans (turned v x d p q hp hq) (converse-mono f));
-      }
-
   module _ {m w n : List ℕ} (l : Marks v m) where
     pub level-lost : Level v p q t m w n false → Lost (Idles v (rules2 v)) v t
-    level-lost s x h d i =
-        let none : kept ≡ 0 = eqb→eq kept 0 (T-not-not (eqb kept 0) (λ e. subst T (sym (s .told)) e)) in
-        emptied-in x (v * p + q) (subst (λ (n : ℕ). v * p + q < n) (sym (h .cells)) (in-range v p q hp hq))
-        (lies-zero (h .small (v * p + q)) (subst (λ (y : ℕ). cell v x p q liesWithin y) none (within x d i)))
+    level-lost s x h d i = put-lost s hp hq h (within x d i)
 
     pub level-sides : Level v p q t m w n true → Sides v (λ a b. (a ≡ p) × (b ≡ q)) t m w n
     level-sides s =
         subst (λ (y : List ℕ). Sides v (λ a b. (a ≡ p) × (b ≡ q)) t m y n) (sym (s .cells))
         (subst (λ (k : List ℕ). Sides v (λ a b. (a ≡ p) × (b ≡ q)) t m after k) (sym (s .list)) (go (eqb kept full) refl))
       where
-        some : kept ≡ 0 → ⊥
-        some e = subst T (s .told ∙ ap (λ (x : ℕ). not (eqb x 0)) e) tt
-
         -- a place that is neither
         beside : (a b : ℕ) → a < b → b < v → ((a ≡ p) × (b ≡ q) → ⊥) → (cell v after a b ≡ cell v t a b) × (cell v after b a ≡ cell v t b a)
         beside a b h hb d = (
@@ -165,9 +117,9 @@ module _ (v p q : ℕ) (t : List ℕ) (r : Ready v t) (less : p < q) (hq : q < v
             → (Off v (noted z m p q) p q → kept ≡ full) → Sides v (λ a b. (a ≡ p) × (b ≡ q)) t m after (noted z m p q)
         both z e off list known =
             record {
-              table = after-table;
+              table = both-table v p q bound t (r .table);
               inside = after-inside;
-              keeps = after-keeps;
+              keeps = λ x d i. both-keeps v p q bound t x (within x d i) (turned v x d p q hp hq) i;
               list = list;
               diagonal = λ a ha. both-other v p q bound t (v * a + a) (λ e. let (f, g) = place-one v a a p q ha hq e in let z : ⊥ = omega arith in z) (λ e. let (f, g) = place-one v a a q p ha hp e in let z : ⊥ = omega arith in z);
               others = λ a b h hb f. ⊎-elim (λ d. this d) (λ d. let (c, c′) = beside a b h hb d in record { turned = c′ ∙ f .turned ∙ ap converse (sym c); some = λ z. f .some (sym c ∙ z); known = λ o. c ∙ f .known (off a b o) }) (is-told a b);
@@ -181,7 +133,7 @@ module _ (v p q : ℕ) (t : List ℕ) (r : Ready v t) (less : p < q) (hq : q < v
             this {a} {b} d =
                 subst (λ (x : ℕ). Sided v (noted z m p q) after x b) (sym (d .0))
                 (subst (λ (y : ℕ). Sided v (noted z m p q) after p y) (sym (d .1))
-                (record { turned = there ∙ ap converse (sym here); some = λ e. some (sym here ∙ e); known = λ o. here ∙ known o }))
+                (record { turned = there ∙ ap converse (sym here); some = λ e. put-some s (sym here ∙ e); known = λ o. here ∙ known o }))
 
         go : (z : Bool) → eqb kept full ≡ z → Sides v (λ a b. (a ≡ p) × (b ≡ q)) t m after (noted z m p q)
         go true e = both true e (λ a b o. o) l (λ o. eqb→eq kept full (subst T (sym e) tt))
@@ -270,6 +222,4 @@ module _ {v : ℕ} where
 
 -- a board that is not even itself
 pub diagonal-lost : {v p : ℕ} {t : List ℕ} → p < v → cell v t p p ≡ 0 → Lost (Idles v (rules2 v)) v t
-diagonal-lost {v} {p} {t} h e x g d i =
-    emptied-in x (v * p + p) (subst (λ (n : ℕ). v * p + p < n) (sym (g .cells)) (in-range v p p h h))
-    (lies-zero (g .small (v * p + p)) (subst (λ (y : ℕ). cell v x p p liesWithin y) e (i .each (v * p + p))))
+diagonal-lost {v} {p} {t} h e x g d i = within-none g h h (subst (λ (y : ℕ). cell v x p p liesWithin y) e (i .each (v * p + p)))

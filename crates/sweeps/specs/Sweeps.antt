@@ -1,6 +1,6 @@
 -- What the visits to rules 2 and 3 see to. Assumes nothing.
 use mathlib.Core.Path.{_≡_}
-use mathlib.Core.Bool.{Bool, true, false, not}
+use mathlib.Core.Bool.{Bool, true, false}
 use mathlib.Core.List.{List, _++_}
 use Prim.Native.Nat.{ℕ, _<_}
 use lib.Dec.{eqb}
@@ -9,7 +9,7 @@ use Rattle.rules.specs.Tables.{cell, Table, Inside}
 use Rattle.rules.specs.Closing.{rules2, rules3}
 use Rattle.passes.specs.Passes.{Idles}
 use Rattle.moves.specs.Watches.{through}
-use Rattle.moves.specs.Moves.{Marks, Off, Mutual, keptOf, narrowedBoth, noted, Tended, Lost}
+use Rattle.moves.specs.Moves.{Marks, Off, Mutual, PairPut, keptOf, Tended, Lost}
 
 -- rules 2 and 3 strike nothing in x
 abbrev pub Evenly : ℕ → List ℕ → Type 0
@@ -34,10 +34,8 @@ abbrev pub allowed : ℕ → List ℕ → ℕ → ℕ → ℕ
 allowed v t p q = keptOf v t p q (converse (cell v t q p))
 
 -- both cells of p and q became what both sides allow; the pair is on the list unless that is all; and it was told whether it is anything
-pub record Level (v p q : ℕ) (t m w n : List ℕ) (some : Bool) : Type 0 where
-  pub cells : w ≡ narrowedBoth v t p q (converse (cell v t q p))
-  pub list : n ≡ noted (eqb (allowed v t p q) full) m p q
-  pub told : some ≡ not (eqb (allowed v t p q) 0)
+abbrev pub Level : ℕ → ℕ → ℕ → List ℕ → List ℕ → List ℕ → List ℕ → Bool → Type 0
+Level v p q t m w n some = PairPut (eqb (allowed v t p q) full) v p q (allowed v t p q) t m w n some
 
 -- two boards are the same seen from both sides, something is allowed, and all is unless the pair is on the list
 pub record Sided (v : ℕ) (m t : List ℕ) (p q : ℕ) : Type 0 where

@@ -57,10 +57,7 @@ fn level(v: usize, p: usize, q: usize, cells: &mut [u8], marks: &mut [u32]) -> b
     if is == relations::FULL {
         return true;
     }
-    cells[k] = is;
-    cells[l] = relations::converse(&entries, is);
-    marks[p] = bits::with(marks[p], q);
-    is != 0
+    moves::put_pair(v, p, q, is, cells, marks)
 }
 
 // Rule 2 of one board and each that comes after it.

@@ -4,10 +4,10 @@ use mathlib.Core.List.{List}
 use Prim.Native.Nat.{ℕ, _+_, _-_, _≤_, _<_}
 use native.Mathlib.Omega.{arith}
 use borrow.Author.Needs.{needs}
-use lib.ListN.{length, getD, set, length-set}
+use lib.ListN.{length, length-set}
 use Rattle.rules.specs.Descriptions.{mostBoards, mostWays}
 use Rattle.kinds.specs.Lines.{StandsIn}
-use Rattle.bits.specs.Sets.{added}
+use Rattle.bits.specs.Sets.{addedAt}
 use Rattle.by_board.specs.Found.{placesAt}
 use Rattle.by_board.proofs.Placing.{Turn, line-few, line-there, line-early, line-stands, line-narrow, line-next, line-panel, line-way, line-told}
 use Rattle.by_board.proofs.put_line.Statement.{statement}
@@ -22,8 +22,8 @@ abbrev μ-loop : tie.MeasureT-loop
 kind-at-requires : tie.Need-kind-at-requires Inv-loop μ-loop
 kind-at-requires c κs = line-there (c .before .before .pre .0)
 
-tell-requires : tie.Need-tell-requires Inv-loop μ-loop
-tell-requires c κs =
+put-requires : tie.Need-put-requires Inv-loop μ-loop
+put-requires c κs =
     let start = c .before .before .before .before in
     (omega (arith, start .pre .1 .words, line-stands (start .pre .0) (c .before .kind-at .ensures) .board), omega (arith, line-few (start .pre .0)))
 
@@ -50,7 +50,7 @@ loop-holds c =
     let met = c .before .before .before .before .before in (
       omega arith,
       subst (Turn (start .args .words .now) (start .args .n) 0)
-          (sym (c .before .before .before .tell .ensures)) (line-panel (start .pre .0) (met .kind-at .ensures) (start .pre .1)),
+          (sym (c .before .before .before .put .ensures)) (line-panel (start .pre .0) (met .kind-at .ensures) (start .pre .1)),
     )
 
 way-requires : tie.Need-way-requires Inv-loop μ-loop
@@ -65,30 +65,30 @@ board c =
     let l = c .before .loop-test .taken in
     (omega (arith, c .way .ensures, line-stands begins met .boards (turn .loop .i) l), omega (arith, line-narrow begins met))
 
-mul-tell : tie.Need-mul-tell Inv-loop μ-loop
-mul-tell c = let b = board (c .before) in record { fits = omega (arith, b .0, b .1) }
+mul-put : tie.Need-mul-put Inv-loop μ-loop
+mul-put c = let b = board (c .before) in record { fits = omega (arith, b .0, b .1) }
 
-add-tell : tie.Need-add-tell Inv-loop μ-loop
-add-tell c = let b = board (c .before) in record { fits = omega (arith, b .0, b .1) }
+add-put : tie.Need-add-put Inv-loop μ-loop
+add-put c = let b = board (c .before) in record { fits = omega (arith, b .0, b .1) }
 
-add-tell-2 : tie.Need-add-tell-2 Inv-loop μ-loop
-add-tell-2 c = let b = board (c .before) in record { fits = omega (arith, b .0, b .1) }
+add-put-2 : tie.Need-add-put-2 Inv-loop μ-loop
+add-put-2 c = let b = board (c .before) in record { fits = omega (arith, b .0, b .1) }
 
-tell-requires-2 : tie.Need-tell-requires-2 Inv-loop μ-loop
-tell-requires-2 c κs =
+put-requires-2 : tie.Need-put-requires-2 Inv-loop μ-loop
+put-requires-2 c κs =
     let turn = c .before .before .before in
     let b = board (c .before) in
     (omega (arith, b .0, b .1, turn .loop .inv .1 .0 .words), omega (arith, line-few (turn .before .before .before .before .before .before .before .before .before .pre .0)))
 
 -- the way's place, once the way is told
-add-tell-3 : tie.Need-add-tell-3 Inv-loop μ-loop
-add-tell-3 c = let b = board (c .before .before .before .before .before) in record { fits = omega (arith, b .0) }
+add-put-3 : tie.Need-add-put-3 Inv-loop μ-loop
+add-put-3 c = let b = board (c .before .before .before .before .before) in record { fits = omega (arith, b .0) }
 
-tell-requires-3 : tie.Need-tell-requires-3 Inv-loop μ-loop
-tell-requires-3 c κs =
+put-requires-3 : tie.Need-put-requires-3 Inv-loop μ-loop
+put-requires-3 c κs =
     let b = board (c .before .before .before .before .before) in
     let turn = c .before .before .before .before .before .before .before in
-    let words = ap length (c .before .before .before .tell2 .ensures) ∙ length-set (turn .loop .found) _ _ ∙ turn .loop .inv .1 .0 .words in
+    let words = ap length (c .before .before .before .put2 .ensures) ∙ length-set (turn .loop .found) _ _ ∙ turn .loop .inv .1 .0 .words in
     (omega (arith, b .0, words), omega (arith, b .1))
 
 add-i : tie.Need-add-i Inv-loop μ-loop
@@ -105,9 +105,9 @@ loop-again c =
     let n = start .args .n in
     let i = turn .loop .i in (
       omega arith,
-      subst (Turn (start .args .words .now) n (i + 1)) (sym (c .before .before .tell3 .ensures))
-          (subst (λ (zs : List ℕ). Turn (start .args .words .now) n (i + 1) (set zs (placesAt + told .before .before .way .result) (added (getD zs (placesAt + told .before .before .way .result) 0) i)))
-          (sym (told .tell2 .ensures))
+      subst (Turn (start .args .words .now) n (i + 1)) (sym (c .before .before .put3 .ensures))
+          (subst (λ (zs : List ℕ). Turn (start .args .words .now) n (i + 1) (addedAt zs (placesAt + told .before .before .way .result) i))
+          (sym (told .put2 .ensures))
           (line-way (start .pre .0) (turn .before .before .before .before .before .before .kind-at .ensures) (turn .loop .inv .1)
           (told .before .before .before .loop-test .taken) (told .before .before .way .ensures))),
     )
@@ -145,19 +145,19 @@ put-line-spec =
     Inv-loop
     μ-loop
     kind-at-requires
-    tell-requires
+    put-requires
     mul-ways
     sub-ways
     part-ways-start
     part-ways-end
     loop-holds
     way-requires
-    mul-tell
-    add-tell
-    add-tell-2
-    tell-requires-2
-    add-tell-3
-    tell-requires-3
+    mul-put
+    add-put
+    add-put-2
+    put-requires-2
+    add-put-3
+    put-requires-3
     add-i
     loop-less
     loop-again

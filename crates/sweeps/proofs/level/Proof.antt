@@ -1,5 +1,5 @@
--- `level` meets its contract: both cells and the list are written unless all is allowed. Assumes nothing.
-use mathlib.Core.Path.{refl, sym, ap, _∙_, subst}
+-- `level` meets its contract: the pair is put unless all is allowed. Assumes nothing.
+use mathlib.Core.Path.{sym, ap, _∙_, subst}
 use Prim.Native.Nat.{ℕ, _<_}
 use native.Mathlib.Omega.{arith}
 use borrow.Author.Needs.{needs}
@@ -7,8 +7,8 @@ use Rattle.rules.specs.Relations.{setLimit, meet}
 use Rattle.rules.proofs.Sets.{meet-small}
 use Rattle.rules.proofs.Composition.{converse-small}
 use Rattle.passes.proofs.Passes.{place-few, ready-place}
-use Rattle.moves.proofs.Striking.{place-after}
-use Rattle.sweeps.proofs.Leveling.{full-is, level-not, level-so}
+use Rattle.moves.proofs.Striking.{unequal-false, put-so}
+use Rattle.sweeps.proofs.Leveling.{full-is, level-not}
 use Rattle.sweeps.proofs.level.Statement.{statement}
 use Rattle.sweeps.proofs.level.Tie as tie
 
@@ -47,31 +47,10 @@ returns c =
     let pre = c .before .before .before .before .before .before .before .before .before .pre in
     level-not (pre .0) (c .before .meet .ensures ∙ ap (meet _) (c .before .before .before .converse .ensures)) (c .if1 .taken ∙ sym full-is)
 
-slice-write-cells : tie.Need-slice-write-cells
-slice-write-cells c = let pre = c .before .before .before .before .before .before .before .before .before .pre in ready-place (pre .0) (below (pre .2) (pre .3)) (pre .3)
-
-converse-requires-2 : tie.Need-converse-requires-2
-converse-requires-2 c κs = (c .before .before .before .before .before .before .before .converse-table .ensures, subst (λ (x : ℕ). x < setLimit) (sym (c .before .before .meet .ensures)) (meet-small _ _))
-
-slice-write-cells-2 : tie.Need-slice-write-cells-2
-slice-write-cells-2 c =
-    let start = c .before .before .before .before .before .before .before .before .before .before .before in
-    place-after (start .args .cells .now) _ (c .before .before .before .meet .result) (start .pre .0) (start .pre .3) (below (start .pre .2) (start .pre .3))
-
-mul-with : tie.Need-mul-with
-mul-with c = search needs
-
-slice-read-with : tie.Need-slice-read-with
-slice-read-with c = search needs
-
-with-requires : tie.Need-with-requires
-with-requires c κs = search needs
-
-mul-marks : tie.Need-mul-marks
-mul-marks c = search needs
-
-slice-write-marks : tie.Need-slice-write-marks
-slice-write-marks c = search needs
+put-pair-requires : tie.Need-put-pair-requires
+put-pair-requires c κs =
+    let pre = c .before .before .before .before .before .before .before .before .before .before .before .pre in
+    (pre .0, pre .1, below (pre .2) (pre .3), pre .3, subst (λ (x : ℕ). x < setLimit) (sym (c .before .before .before .meet .ensures)) (meet-small _ _))
 
 same-length : tie.Need-same-length
 same-length c = search needs
@@ -81,8 +60,10 @@ same-length-2 c = search needs
 
 returns-2 : tie.Need-returns-2
 returns-2 c =
-    let pre = c .before .before .before .before .before .before .before .before .before .before .before .before .before .pre in
-    level-so (pre .0) (c .before .before .before .before .before .meet .ensures ∙ ap (meet _) (c .before .before .before .before .before .before .before .converse .ensures)) (λ z. c .before .before .before .before .if1 .left (z ∙ full-is)) (c .before .before .converse2 .ensures) (c .with .ensures) refl
+    let called = c .before .before .before .before in
+    let met = called .before .before .before .before in
+    let kept = met .meet .ensures ∙ ap (meet _) (met .before .before .converse .ensures) in
+    put-so kept (unequal-false (λ z. called .before .before .before .if1 .left (kept ∙ z ∙ full-is))) (called .put-pair .ensures)
 
 pub level-spec : {M : Type 1} → statement M
 level-spec =
@@ -98,14 +79,7 @@ level-spec =
     slice-read-meet
     meet-requires
     returns
-    slice-write-cells
-    converse-requires-2
-    slice-write-cells-2
-    mul-with
-    slice-read-with
-    with-requires
-    mul-marks
-    slice-write-marks
+    put-pair-requires
     same-length
     same-length-2
     returns-2)

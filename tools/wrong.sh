@@ -13,10 +13,13 @@ cd "$(dirname "$0")/.."
 # What can be wrong with the list, and the edits that make it so.
 edits_of_the_list='
 a pair not put on it after a strike by rule 2: sweeps/known_pair_put_on_the_list_beside_itself
-after one by rule 3, 6 or 7: moves/pair_put_on_the_list_beside_itself sweeps/rule_3_strikes_another_pair panels/rule_6_panel_struck_from_below
+after one by rule 3, 6 or 7: moves/pair_put_on_the_list_beside_itself
+after one by rule 3: sweeps/rule_3_pair_put_on_another_list sweeps/rule_3_other_pair_put_on_another_list sweeps/rule_3_strikes_another_pair
+after one by rule 6: panels/rule_6_panel_put_on_another_list panels/rule_6_way_put_on_another_list panels/rule_6_panel_struck_from_below
+after one by rule 7: same_panels/rule_7_panels_put_on_another_list same_panels/rule_7_ways_put_on_another_list
 only one direction of a pair revisited: sweeps/rule_3_from_one_side_only rounds/kind_lines_visited_from_one_side_only same_panels/rule_7_ways_of_one_board_only
 a kind line found by its panel but not by its ways: panels/ways_visited_only_where_they_reach same_panels/rule_7_lines_not_found_by_their_ways
-left after one pass: rounds/list_left_with_pairs_on_it
+left or emptied after one pass: rounds/list_left_with_pairs_on_it rounds/list_emptied_after_one_pair
 a mark not taken off: rounds/mark_not_taken_off
 the narrowed pair of a try not on it: choosing/try_struck_at_a_board_and_itself
 '

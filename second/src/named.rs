@@ -49,6 +49,7 @@ fn kinds_of_note() -> Vec<(&'static str, Draft)> {
         ("one-board-same-line-twice", Draft::of(3).kind(0, 5, &[1, 2]).kind(0, 5, &[1, 2])),
         ("one-board-ways-exchanged", Draft::of(3).kind(0, 5, &[1, 2]).kind(0, 5, &[2, 1])),
         ("one-board-two-names-of-a-way", Draft::of(3).kind(0, 5, &[1]).kind(0, 5, &[2])),
+        ("one-board-two-names-of-two-ways", Draft::of(5).kind(0, 5, &[1, 2]).kind(0, 5, &[3, 4])),
         ("different-ways-different-panels", two(5, 5).line(1, 3, &[6, 0])),
         ("twins", twins.clone()),
         ("twins-same-panel", twins.clone().line(0, 1, &[0])),

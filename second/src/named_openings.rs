@@ -1,7 +1,7 @@
 //! What opening answers and leaves of descriptions with names, worked out by hand.
 
 /// The relations struck and the table left of sites that the rules name.
-pub const OPENED: [(&str, u32, &[u8]); 9] = [
+pub const OPENED: [(&str, u32, &[u8]); 10] = [
     ("one-board", 3, &[1]),
     ("two-boards", 6, &[1, 15, 15, 1]),
     ("three-boards", 9, &[1, 15, 15, 15, 1, 15, 15, 15, 1]),
@@ -10,6 +10,11 @@ pub const OPENED: [(&str, u32, &[u8]); 9] = [
     ("two-above-one", 23, &[1, 7, 2, 7, 1, 2, 4, 4, 1]),
     ("example", 27, &[1, 2, 2, 4, 1, 8, 4, 8, 1]),
     ("second-way-feeds", 46, &[1, 2, 2, 2, 4, 1, 8, 8, 4, 8, 1, 3, 4, 8, 5, 1]),
+    (
+        "one-board-two-names-of-two-ways",
+        75,
+        &[1, 2, 2, 2, 2, 4, 1, 8, 1, 8, 4, 8, 1, 8, 1, 4, 1, 8, 1, 8, 4, 8, 1, 8, 1],
+    ),
     ("same-way-same-panel", 48, &[1, 2, 1, 2, 4, 1, 4, 1, 1, 2, 1, 2, 4, 1, 4, 1]),
 ];
 

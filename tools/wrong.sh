@@ -12,11 +12,13 @@ cd "$(dirname "$0")/.."
 
 # What can be wrong with the list, and the edits that make it so.
 edits_of_the_list='
-a pair not put on it after a strike by rule 2: sweeps/known_pair_put_on_the_list_beside_itself
-after one by rule 3, 6 or 7: moves/pair_put_on_the_list_beside_itself
-after one by rule 3: sweeps/rule_3_pair_put_on_another_list sweeps/rule_3_other_pair_put_on_another_list sweeps/rule_3_strikes_another_pair
-after one by rule 6: panels/rule_6_panel_put_on_another_list panels/rule_6_way_put_on_another_list panels/rule_6_panel_struck_from_below
+a pair not put on it after a strike by any rule: moves/pair_put_on_the_list_beside_itself
+after one by rule 2: sweeps/rule_2_pair_put_on_another_list
+after one by rule 3: sweeps/rule_3_pair_put_on_another_list sweeps/rule_3_other_pair_put_on_another_list
+after one by rule 6: panels/rule_6_panel_put_on_another_list panels/rule_6_way_put_on_another_list
 after one by rule 7: same_panels/rule_7_panels_put_on_another_list same_panels/rule_7_ways_put_on_another_list
+another pair struck: sweeps/known_pair_struck_at_a_board_and_itself moves/pair_struck_at_a_board_and_itself sweeps/rule_3_strikes_another_pair
+and by rules 6 and 7: panels/rule_6_panel_struck_from_below same_panels/rule_7_ways_joined_with_themselves
 only one direction of a pair revisited: sweeps/rule_3_from_one_side_only rounds/kind_lines_visited_from_one_side_only same_panels/rule_7_ways_of_one_board_only
 a kind line found by its panel but not by its ways: panels/ways_visited_only_where_they_reach same_panels/rule_7_lines_not_found_by_their_ways
 left or emptied after one pass: rounds/list_left_with_pairs_on_it rounds/list_emptied_after_one_pair
@@ -47,8 +49,10 @@ copy_source() { # CRATE: into the room, without its proofs and its cases
     cp -R "crates/$1/src" "$room/crates/$1/"
 }
 
-edit_file() { # CRATE/EDIT
-    printf 'crates/%s/must-fail/%s.edit\n' "${1%%/*}" "${1#*/}"
+edit_file() { # CRATE/EDIT: one that the prover must refuse, or one that is for a run alone, in tests/wrong/, since it would change the form of the proof too
+    file=crates/${1%%/*}/must-fail/${1#*/}.edit
+    [ -f "$file" ] || file=tests/wrong/$1.edit
+    printf '%s\n' "$file"
 }
 
 apply() { # CRATE/EDIT: as rt does; a line 'file:' holds for the pairs 'old:' and 'new:' after it, and an old text stands once in its file

@@ -12,7 +12,7 @@ use lib.Seq.{ext-getD}
 use Rattle.rules.specs.Relations.{has}
 use Rattle.rules.specs.Descriptions.{mostBoards, mostWays}
 use Rattle.rules.proofs.Digits.{digits-ext}
-use Rattle.by_board.specs.Found.{spotsAt, placesAt, startsAt, Indexed}
+use Rattle.by_board.specs.Found.{spotsAt, placesAt, startsAt, withWay, placesOf, Indexed}
 
 below-power : (x : ℕ) → x < 2 ^ x
 below-power zero = omega arith
@@ -33,13 +33,13 @@ module _ {count : ℕ} {ws xs ys : List ℕ} (s : Indexed count ws xs) (t : Inde
       go true e = let l = ltb-true n count e in s .starts n l ∙ sym (t .starts n l)
       go false e = let l = ltb-false n count e in s .beyond n l ∙ sym (t .beyond n l)
 
-  same-spots : (b i : ℕ) → b < mostBoards → i < mostWays → getD xs (spotsAt + mostWays * b + i) 0 ≡ getD ys (spotsAt + mostWays * b + i) 0
+  same-spots : (b i : ℕ) → b < mostBoards → i < mostWays → withWay xs b i ≡ withWay ys b i
   same-spots b i h l =
-      same-set (getD xs (spotsAt + mostWays * b + i) 0) (getD ys (spotsAt + mostWays * b + i) 0) (λ m. s .spots b i m h l ∙ sym (t .spots b i m h l))
+      same-set (withWay xs b i) (withWay ys b i) (λ m. s .spots b i m h l ∙ sym (t .spots b i m h l))
 
-  same-places : (b : ℕ) → b < mostBoards → getD xs (placesAt + b) 0 ≡ getD ys (placesAt + b) 0
+  same-places : (b : ℕ) → b < mostBoards → placesOf xs b ≡ placesOf ys b
   same-places b h =
-      digits-ext mostWays (getD xs (placesAt + b) 0) (getD ys (placesAt + b) 0) (s .few b h) (t .few b h)
+      digits-ext mostWays (placesOf xs b) (placesOf ys b) (s .few b h) (t .few b h)
       (λ i l. s .places b i h l ∙ ap (λ (x : ℕ). not (eqb x 0)) (same-spots b i h l) ∙ sym (t .places b i h l))
 
   same-word : (k : ℕ) → k < length xs → getD xs k 0 ≡ getD ys k 0

@@ -6,8 +6,8 @@ use Rattle.by_board.proofs.index_room.Kinds as index-room-kinds
 use Rattle.by_board.proofs.index_room.Reads as index-room
 use Rattle.by_board.proofs.index.Kinds as index-kinds
 use Rattle.by_board.proofs.index.Reads as index
-use Rattle.by_board.proofs.line_start.Kinds as line-start-kinds
-use Rattle.by_board.proofs.line_start.Reads as line-start
+use Rattle.by_board.proofs.line_of.Kinds as line-of-kinds
+use Rattle.by_board.proofs.line_of.Reads as line-of
 use Rattle.by_board.proofs.with_panel.Kinds as with-panel-kinds
 use Rattle.by_board.proofs.with_panel.Reads as with-panel
 use Rattle.by_board.proofs.with_way.Kinds as with-way-kinds
@@ -21,8 +21,8 @@ index-room-determined κs a asked x y d e p q = p ∙ sym q
 pub index-determined : OneOutcome 2 index-kinds.ps index-kinds.r index.Asked index.Learnt (λ κs e. e .1 .1 .0 .now)
 index-determined κs a asked x y d e p q = (refl, indexed-same p q)
 
-pub line-start-determined : OneResult 1 line-start-kinds.ps line-start-kinds.r line-start.Asked line-start.Learnt
-line-start-determined κs a asked x y d e p q = p ∙ sym q
+pub line-of-determined : OneResult 2 line-of-kinds.ps line-of-kinds.r line-of.Asked line-of.Learnt
+line-of-determined κs a asked x y d e p q = p ∙ sym q
 
 pub with-panel-determined : OneResult 1 with-panel-kinds.ps with-panel-kinds.r with-panel.Asked with-panel.Learnt
 with-panel-determined κs a asked x y d e p q = p ∙ sym q

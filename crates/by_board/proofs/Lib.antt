@@ -4,4 +4,5 @@ pub mod Marking
 pub mod Telling
 pub mod Placing
 pub mod Agreeing
+pub mod Asking
 pub mod Determined

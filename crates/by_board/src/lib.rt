@@ -2,14 +2,16 @@
 // is made once for many questions. It has a set of lines, by their numbers, for each board, another for each board and place among the ways, then for each
 // board a set of the places in which it is a way, and then where each line begins.
 ghost use mathlib.Core.Path.{_≡_};
-ghost use Prim.Native.Nat.{_+_, _*_, _<_};
+ghost use Prim.Native.Nat.{_+_, _<_};
 ghost use lib.ListN.{length, getD, replicate};
 ghost use Rattle.rules.specs.Descriptions.{mostBoards, mostKinds, mostWays};
-ghost use Rattle.by_board.specs.Found.{startOf, spotsAt, placesAt, startsAt, indexWords, Fitting, Begins, Indexed};
+ghost use Rattle.kinds.specs.Lines.{kindAt};
+ghost use Rattle.by_board.specs.Found.{startOf, startsAt, indexWords, withPanel, withWay, placesOf, Fitting, Begins, Indexed, Located};
 use answers::limits::MOST_BOARDS;
 use answers::limits::MOST_KINDS;
 use answers::limits::MOST_WAYS;
 use answers::widths::count_number;
+use kinds::KindLine;
 use kinds::kind_at;
 use kinds::way;
 
@@ -63,17 +65,25 @@ pub fn index(count: usize, words: &[u16], found: &mut [u32])
 }
 
 // Where line n begins, in the words of the kind lines.
-pub fn line_start(found: &[u32], n: usize) -> usize
+fn line_start(found: &[u32], n: usize) -> usize
     requires { ⌜ (length (now found) ≡ indexWords) × (n < mostKinds) ⌝ }
     ensures { λ k. ⌜ k ≡ getD (now (found .entry)) (startsAt + n) 0 ⌝ }
 {
     count_number(found[STARTS_AT + n])
 }
 
+// Kind line n, which the index finds in the words.
+pub fn line_of(words: &[u16], found: &[u32], n: usize) -> KindLine
+    requires { ⌜ Located n (now words) (now found) ⌝ }
+    ensures { λ line. ⌜ line ≡ kindAt (now (words .entry)) (startOf (now (words .entry)) n) ⌝ }
+{
+    kind_at(words, line_start(found, n))
+}
+
 // The lines whose panel is board b.
 pub fn with_panel(found: &[u32], b: usize) -> u32
     requires { ⌜ (length (now found) ≡ indexWords) × (b < mostBoards) ⌝ }
-    ensures { λ x. ⌜ x ≡ getD (now (found .entry)) b 0 ⌝ }
+    ensures { λ x. ⌜ x ≡ withPanel (now (found .entry)) b ⌝ }
 {
     found[b]
 }
@@ -81,7 +91,7 @@ pub fn with_panel(found: &[u32], b: usize) -> u32
 // The lines that have board b in place i of their ways.
 pub fn with_way(found: &[u32], b: usize, i: usize) -> u32
     requires { ⌜ (length (now found) ≡ indexWords) × (b < mostBoards) × (i < mostWays) ⌝ }
-    ensures { λ x. ⌜ x ≡ getD (now (found .entry)) (spotsAt + mostWays * b + i) 0 ⌝ }
+    ensures { λ x. ⌜ x ≡ withWay (now (found .entry)) b i ⌝ }
 {
     found[SPOTS_AT + MOST_WAYS * b + i]
 }
@@ -89,7 +99,7 @@ pub fn with_way(found: &[u32], b: usize, i: usize) -> u32
 // The places i in which board b is the way of some line: those for which `with_way` is not empty.
 pub fn places(found: &[u32], b: usize) -> u32
     requires { ⌜ (length (now found) ≡ indexWords) × (b < mostBoards) ⌝ }
-    ensures { λ x. ⌜ x ≡ getD (now (found .entry)) (placesAt + b) 0 ⌝ }
+    ensures { λ x. ⌜ x ≡ placesOf (now (found .entry)) b ⌝ }
 {
     found[PLACES_AT + b]
 }

@@ -10,13 +10,13 @@ use lib.Dec.{T, eqb, eqb→eq, eqb-refl, not-T, T-not}
 use lib.Count.{ones}
 use lib.ListN.{length, getD, set, length-set}
 use lib.Seq.{getD-set-same, getD-set-other}
-use Rattle.rules.specs.Relations.{same, E, has, setLimit, _liesWithin_, converse}
+use Rattle.rules.specs.Relations.{same, E, has, setLimit, opposite, _liesWithin_, converse}
 use Rattle.rules.specs.Descriptions.{mostBoards}
 use Rattle.rules.specs.Tables.{cell, Table, Inside, emptied, total}
 use Rattle.rules.proofs.Tests.{order-cases, T-decide, T-differ, T-or, or-T-left, or-T-right}
 use Rattle.rules.proofs.Sets.{lies-refl, lies-eq, lies-trans, lies-one, meet-small, meet-left, meet-right, meet-largest}
 use Rattle.rules.proofs.Rules.{same-small}
-use Rattle.rules.proofs.Composition.{converse-small, converse-mono, converse-converse, converse-zero}
+use Rattle.rules.proofs.Composition.{converse-small, converse-mono, converse-converse, converse-single, converse-zero}
 use Rattle.rules.proofs.Inside.{inside-refl, inside-trans, total-tight, emptied-in, emptied-out}
 use Rattle.rules.proofs.Strikes.{set-each}
 use Rattle.passes.specs.Passes.{Filled}
@@ -35,6 +35,11 @@ place-one v p q a b hq hb e = ⊎-elim (λ l. absurd (less p q a b hq l e)) (⊎
 
     one : p ≡ a → (p ≡ a) × (q ≡ b)
     one f = let g : v * p ≡ v * a = ap (λ (x : ℕ). v * x) f in (f, omega arith)
+
+-- E seen from the other side
+pub turned-E : converse E ≡ E
+unfolding opposite
+turned-E = converse-single same same-small
 
 -- the marks of a list with one word written
 pub marks-set : (m : List ℕ) (p x : ℕ) → p < length m → marks (set m p x) + ones (getD m p 0) ≡ marks m + ones x
@@ -112,9 +117,6 @@ module _ (v p q b : ℕ) (t : List ℕ) where
               let e = eqb→eq (v * p + q) (v * q + p) d in
               let same : p ≡ q = place-one v p q q p hq hp e .0 in
               ap (λ (k : ℕ). getD struck k 0) e ∙ there ∙ ap converse (itself same) ∙ turned-E ∙ sym (itself same)
-            where
-              turned-E : converse E ≡ E
-              turned-E = ap converse (sym (u .selves p hp)) ∙ sym (u .mirrored p p hp hp) ∙ u .selves p hp
 
           other : T (not (eqb (v * p + q) (v * q + p))) → cell v struck p q ≡ kept
           other d = written-here kept (u .ready) hp hq (T-differ d)

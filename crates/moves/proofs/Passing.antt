@@ -1,14 +1,17 @@
--- One visit after another, each of which says whether it goes on: to the numbers below a number, and to those of a set. What is to be kept may depend on
--- something that is only known to be there, as the kind lines are that fill some words. Assumes nothing.
+-- One visit to the rules of kind lines after another, each of which says whether it goes on: to the numbers below a number, and to those of a set. What is to
+-- be kept depends on the kind lines, of which it is only known that they fill the words. Assumes nothing.
 use mathlib.Core.Path.{_≡_, refl, sym, _∙_, subst}
 use mathlib.Core.Bool.{Bool, true, false, not}
 use mathlib.Core.Logic.{_⊎_, inl, inr, ⊎-elim}
 use mathlib.Core.List.{List}
 use Prim.Native.Nat.{ℕ, _+_, _^_, _<_}
+use native.Mathlib.Omega.{arith}
 use borrow.Author.Count.{below-none, below-more}
+use borrow.Author.Tests.{not-true, not-false}
 use lib.Dec.{T, eqb, eqb→eq}
 use lib.ListN.{length}
 use Rattle.rules.specs.Relations.{has, _liesWithin_, converse}
+use Rattle.rules.specs.Descriptions.{mostBoards, KindLine}
 use Rattle.rules.specs.Tables.{cell}
 use Rattle.rules.specs.Closing.{Idle, rules2}
 use Rattle.rules.proofs.Tests.{and-T, T-and-left, T-decide}
@@ -16,10 +19,13 @@ use Rattle.rules.proofs.Sets.{lies-eq}
 use Rattle.rules.proofs.Members.{all-one, one-all}
 use Rattle.rules.proofs.Rules.{all-boards, boards-all}
 use Rattle.passes.specs.Passes.{Idles}
+use Rattle.kinds.specs.Sections.{WithKinds}
 use Rattle.bits.specs.Sets.{wordBits, removed, lowest}
 use Rattle.bits.proofs.Laws.{has-zero, has-small, has-removed, removed-small, removed-less, lowest-has}
-use Rattle.moves.specs.Moves.{Marks, Mirrored, Mutual, Moved, Lost, Went}
-use Rattle.moves.proofs.Moving.{moved-none, moved-then, lost-then}
+use Rattle.by_board.specs.Found.{Listed}
+use Rattle.moves.specs.Moves.{Mirrored, Mutual, Moved, Lost, Went}
+use Rattle.moves.specs.Visits.{Site, Visited}
+use Rattle.moves.proofs.Moving.{moved-none, moved-then, moved-as, lost-then, lost-as}
 
 -- where rule 2 strikes nothing, a board seen from another is turned
 pub turned : (v : ℕ) (x : List ℕ) → Idles v (rules2 v) x → (p q : ℕ) → p < v → q < v → cell v x q p liesWithin converse (cell v x p q)
@@ -32,24 +38,30 @@ unfolding rules2
 mirrored-idle {v} {t} f =
     all-boards (Idle v t) v _ (λ p hp. all-boards (Idle v t) v _ (λ q hq. all-one (Idle v t) (lies-eq (f p q hp hq))))
 
-module _ {X : Type 0} (F : X → Type 0) (C : X → List ℕ → Type 0) (v : ℕ) where
-  -- table and list have moved; every table that is to be kept has an empty cell; and a visit
-  abbrev pub Gone : List ℕ → List ℕ → List ℕ → List ℕ → Type 0
-  Gone t m w n = (x : X) → F x → Moved (C x) v t m w n
+-- a board of the table is one of few
+pub board-few : {v : ℕ} {t : List ℕ} {a : ℕ} → Mutual v t → a < v → a < mostBoards
+board-few u h = omega (arith, u .ready .boards)
 
-  abbrev pub Gave : List ℕ → Type 0
-  Gave t = (x : X) → F x → Lost (C x) v t
+-- work that keeps more than is asked, and work that sees to something else as well
+pub went-as : (C D : List ℕ → Type 0) (v : ℕ) (P : List ℕ → List ℕ → Type 0) (t m w n : List ℕ) (some : Bool) → ((x : List ℕ) → D x → C x)
+    → Went C v P t m w n some → Went D v P t m w n some
+went-as C D v P t m w n true f (moved, seen) = (moved-as f moved, seen)
+went-as C D v P t m w n false f lost = lost-as f lost
 
-  abbrev pub Visit : (List ℕ → List ℕ → Type 0) → List ℕ → List ℕ → List ℕ → List ℕ → Bool → Type 0
-  Visit P t m w n some = (x : X) → F x → Went (C x) v P t m w n some
+pub went-so : (C : List ℕ → Type 0) (v : ℕ) (P Q : List ℕ → List ℕ → Type 0) (t m w n : List ℕ) (some : Bool) → (Moved C v t m w n → P n w → Q n w)
+    → Went C v P t m w n some → Went C v Q t m w n some
+went-so C v P Q t m w n true f (moved, seen) = (moved, f moved seen)
+went-so C v P Q t m w n false f lost = lost
 
-  -- P stays as table and list move
-  abbrev pub Steady : (List ℕ → List ℕ → Type 0) → Type 0
-  Steady P = (t m w n : List ℕ) → Gone t m w n → P m t → P n w
+-- P stays as table and list move
+abbrev pub Steady : ℕ → (List ℕ → List ℕ → Type 0) → Type 1
+Steady v P = (C : List ℕ → Type 0) (t m w n : List ℕ) → Moved C v t m w n → P m t → P n w
 
-  -- so far table and list have moved, and are as long as they were
+module _ (C : List KindLine → List ℕ → Type 0) (v count : ℕ) (ws xs : List ℕ) where
+  -- so far table and list have moved, whichever kind lines fill the words, and are as long as they were
   pub record Going (t m w n : List ℕ) : Type 0 where
-    pub gone : Gone t m w n
+    pub site : Site v count ws xs w n
+    pub gone : WithKinds v count ws (λ ks. Moved (C ks) v t m w n)
     pub long : length w ≡ length t
     pub words : length n ≡ length m
 
@@ -65,60 +77,74 @@ module _ {X : Type 0} (F : X → Type 0) (C : X → List ℕ → Type 0) (v : �
     pub among : (i : ℕ) → T (has left i) → T (has all i)
     pub done : (i : ℕ) → T (has all i) → T (has left i) ⊎ Q i n w
 
-module _ {X : Type 0} {F : X → Type 0} {C : X → List ℕ → Type 0} {v : ℕ} where
+-- the kind lines with the table and the list that were moved
+pub moved-site : {C : List ℕ → Type 0} {v count : ℕ} {ws xs t m w n : List ℕ} → Listed v count ws xs → Moved C v t m w n → Site v count ws xs w n
+moved-site l g = record { table = g .fit; list = g .list; listed = l }
+
+module _ {C : List KindLine → List ℕ → Type 0} {v count : ℕ} {ws xs : List ℕ} where
   -- ---- one visit more
 
-  going-none : {t m : List ℕ} → Mutual v t → Marks v m → Going F C v t m t m
-  going-none u l = record { gone = λ x f. moved-none u l; long = refl; words = refl }
+  going-none : {t m : List ℕ} → Site v count ws xs t m → Going C v count ws xs t m t m
+  going-none s = record { site = s; gone = λ ks fill. moved-none (s .table) (s .list); long = refl; words = refl }
 
-  pub going-fit : {t m w n : List ℕ} → (x : X) × F x → Going F C v t m w n → Mutual v w × Marks v n
-  going-fit (x, f) g = let moved = g .gone x f in (moved .fit, moved .list)
+  module _ {t m u k : List ℕ} (g : Going C v count ws xs t m u k) (P : List ℕ → List ℕ → Type 0) (w n : List ℕ) (some : Bool)
+      (h : Visited C v count ws (λ ks. P) u k w n some) where
+    going-lost : not some ≡ true → WithKinds v count ws (λ ks. Lost (C ks) v t)
+    going-lost e ks fill = lost-then (g .gone ks fill) (subst (Went (C ks) v P u k w n) (not-true some e) (h ks fill))
 
-  module _ {t m u k : List ℕ} (g : Going F C v t m u k) (P : List ℕ → List ℕ → Type 0) (w n : List ℕ) (some : Bool) (h : Visit F C v P u k w n some) where
-    going-lost : some ≡ false → Gave F C v t
-    going-lost e x f = lost-then (g .gone x f) (subst (Went (C x) v P u k w n) e (h x f))
+    module _ (e : not some ≡ false) where
+      going-on : WithKinds v count ws (λ ks. Moved (C ks) v u k w n × P n w)
+      going-on ks fill = subst (Went (C ks) v P u k w n) (not-false some e) (h ks fill)
 
-    going-on : some ≡ true → (x : X) → F x → Moved (C x) v u k w n × P n w
-    going-on e x f = subst (Went (C x) v P u k w n) e (h x f)
+      going-next : Going C v count ws xs t m w n
+      going-next =
+          let (ks, fill) = g .site .listed .lines .0 in
+          let moved = going-on ks fill .0 in
+          record {
+            site = moved-site (g .site .listed) moved;
+            gone = λ ks fill. moved-then (g .gone ks fill) (going-on ks fill .0);
+            long = moved .inside .cells ∙ g .long;
+            words = moved .list .words ∙ sym (g .site .list .words) ∙ g .words;
+          }
 
-    going-next : (x : X) × F x → some ≡ true → Going F C v t m w n
-    going-next (x, f) e =
-        record {
-          gone = λ x f. moved-then (g .gone x f) (going-on e x f .0);
-          long = going-on e x f .0 .inside .cells ∙ g .long;
-          words = going-on e x f .0 .list .words ∙ sym (g .gone x f .list .words) ∙ g .words;
-        }
+      -- what is seen to, and what stays so
+      going-seen : P n w
+      going-seen = let (ks, fill) = g .site .listed .lines .0 in going-on ks fill .1
+
+      going-stays : {R : List ℕ → List ℕ → Type 0} → Steady v R → R k u → R n w
+      going-stays steady r = let (ks, fill) = g .site .listed .lines .0 in steady (C ks) u k w n (going-on ks fill .0) r
 
   module _ {Q : ℕ → List ℕ → List ℕ → Type 0} where
     -- ---- to the numbers below a number
 
-    pub counting-none : {t m : List ℕ} → Mutual v t → Marks v m → Counting F C v Q 0 t m t m
-    counting-none u l = record { going = going-none u l; done = below-none _ }
+    pub counting-none : {t m : List ℕ} → Site v count ws xs t m → Counting C v count ws xs Q 0 t m t m
+    counting-none s = record { going = going-none s; done = below-none _ }
 
-    module _ {i : ℕ} {t m u k : List ℕ} (p : Counting F C v Q i t m u k) (w n : List ℕ) (some : Bool) (h : Visit F C v (Q i) u k w n some) where
-      pub counting-lost : some ≡ false → Gave F C v t
+    module _ {i : ℕ} {t m u k : List ℕ} (p : Counting C v count ws xs Q i t m u k) (w n : List ℕ) (some : Bool)
+        (h : Visited C v count ws (λ ks. Q i) u k w n some) where
+      pub counting-lost : not some ≡ true → WithKinds v count ws (λ ks. Lost (C ks) v t)
       counting-lost e = going-lost (p .going) (Q i) w n some h e
 
-      pub counting-next : (x : X) × F x → ((j : ℕ) → Steady F C v (Q j)) → some ≡ true → Counting F C v Q (i + 1) t m w n
-      counting-next (x, f) steady e =
-          let on = going-on (p .going) (Q i) w n some h e in
+      pub counting-next : ((j : ℕ) → Steady v (Q j)) → not some ≡ false → Counting C v count ws xs Q (i + 1) t m w n
+      counting-next steady e =
           record {
-            going = going-next (p .going) (Q i) w n some h (x, f) e;
-            done = below-more _ _ (λ j l. steady j u k w n (λ x f. on x f .0) (p .done j l)) (on x f .1);
+            going = going-next (p .going) (Q i) w n some h e;
+            done =
+                below-more _ _ (λ j l. going-stays (p .going) (Q i) w n some h e (steady j) (p .done j l)) (going-seen (p .going) (Q i) w n some h e);
           }
 
     -- ---- to the numbers of a set
 
-    pub passing-none : {all left : ℕ} {t m : List ℕ} → Mutual v t → Marks v m → left ≡ all → left < 2 ^ wordBits → Passing F C v Q all left t m t m
-    passing-none u l e h =
+    pub passing-none : {all left : ℕ} {t m : List ℕ} → Site v count ws xs t m → left ≡ all → left < 2 ^ wordBits → Passing C v count ws xs Q all left t m t m
+    passing-none s e h =
         record {
-          going = going-none u l;
+          going = going-none s;
           small = h;
           among = λ i a. subst (λ (x : ℕ). T (has x i)) e a;
           done = λ i a. inl (subst (λ (x : ℕ). T (has x i)) (sym e) a);
         }
 
-    module _ {all left : ℕ} {t m u k : List ℕ} (p : Passing F C v Q all left t m u k) where
+    module _ {all left : ℕ} {t m u k : List ℕ} (p : Passing C v count ws xs Q all left t m u k) where
       -- the least of those that are left
       pub passing-least : {i : ℕ} → i ≡ lowest left → (left ≡ 0 → ⊥) → (i < wordBits) × T (has left i)
       passing-least {i} e n =
@@ -129,26 +155,25 @@ module _ {X : Type 0} {F : X → Type 0} {C : X → List ℕ → Type 0} {v : �
       pub passing-less : (i : ℕ) → T (has left i) → {rest : ℕ} → rest ≡ removed left i → rest < left
       passing-less i here e = subst (λ (x : ℕ). x < left) (sym e) (removed-less left i here)
 
-      module _ (i : ℕ) (w n : List ℕ) (some : Bool) (h : Visit F C v (Q i) u k w n some) where
-        pub passing-lost : some ≡ false → Gave F C v t
+      module _ (i : ℕ) (w n : List ℕ) (some : Bool) (h : Visited C v count ws (λ ks. Q i) u k w n some) where
+        pub passing-lost : not some ≡ true → WithKinds v count ws (λ ks. Lost (C ks) v t)
         passing-lost e = going-lost (p .going) (Q i) w n some h e
 
-        pub passing-next : T (has left i) → {rest : ℕ} → rest ≡ removed left i → (x : X) × F x → ((j : ℕ) → Steady F C v (Q j)) → some ≡ true
-            → Passing F C v Q all rest t m w n
-        passing-next here {rest} r (x, f) steady e =
-            let on = going-on (p .going) (Q i) w n some h e in
-            subst (λ (y : ℕ). Passing F C v Q all y t m w n) (sym r)
+        pub passing-next : T (has left i) → {rest : ℕ} → rest ≡ removed left i → ((j : ℕ) → Steady v (Q j)) → not some ≡ false
+            → Passing C v count ws xs Q all rest t m w n
+        passing-next here {rest} r steady e =
+            subst (λ (y : ℕ). Passing C v count ws xs Q all y t m w n) (sym r)
             (record {
-              going = going-next (p .going) (Q i) w n some h (x, f) e;
+              going = going-next (p .going) (Q i) w n some h e;
               small = removed-small wordBits left i (p .small);
               among = λ j a. p .among j (T-and-left (has left j) (not (eqb i j)) (subst T (has-removed left i j here) a));
               done =
                   λ j a.
                   ⊎-elim
                   (λ b.
-                  ⊎-elim (λ d. inr (subst (λ (j : ℕ). Q j n w) (eqb→eq i j d) (on x f .1)))
+                  ⊎-elim (λ d. inr (subst (λ (j : ℕ). Q j n w) (eqb→eq i j d) (going-seen (p .going) (Q i) w n some h e)))
                   (λ d. inl (subst T (sym (has-removed left i j here)) (and-T (has left j) (not (eqb i j)) b d))) (T-decide (eqb i j)))
-                  (λ q. inr (steady j u k w n (λ x f. on x f .0) q)) (p .done j a);
+                  (λ q. inr (going-stays (p .going) (Q i) w n some h e (steady j) q)) (p .done j a);
             })
 
       pub passing-end : left ≡ 0 → (i : ℕ) → T (has all i) → Q i k u

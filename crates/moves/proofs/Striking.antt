@@ -23,15 +23,6 @@ equal-true {x} {y} e = T-true (subst (λ (z : ℕ). T (eqb x z)) e (eqb-refl x))
 pub unequal-false : {x y : ℕ} → (x ≡ y → ⊥) → eqb x y ≡ false
 unequal-false {x} {y} f = T-false (λ e. f (eqb→eq x y e))
 
--- a test of the opposite, passed and not
-pub not-so : (b : Bool) → not b ≡ true → b ≡ false
-not-so true e = sym e
-not-so false e = refl
-
-pub not-not-so : (b : Bool) → not b ≡ false → b ≡ true
-not-not-so true e = refl
-not-not-so false e = sym e
-
 -- no cell of the table is empty
 pub cell-some : {v : ℕ} {t : List ℕ} {p q : ℕ} → Mutual v t → p < v → q < v → cell v t p q ≡ 0 → ⊥
 cell-some {v} {t} {p} {q} u hp hq e = T-not (emptied t) (u .filled) (emptied-in t (v * p + q) (ready-place (u .ready) hp hq) e)

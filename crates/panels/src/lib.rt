@@ -4,17 +4,15 @@ ghost use mathlib.Core.List.{_++_};
 ghost use Prim.Native.Nat.{_≤_, _<_};
 ghost use lib.ListN.{length};
 ghost use Rattle.rules.specs.Relations.{setLimit};
-ghost use Rattle.rules.specs.Descriptions.{mostKinds};
 ghost use Rattle.rules.specs.Closing.{reaches, rules2, rule6, rules6};
 ghost use Rattle.passes.specs.Passes.{Ready, Idles};
-ghost use Rattle.moves.specs.Moves.{Marks, Mutual, Went, Fed, FedFor};
 ghost use Rattle.kinds.specs.Lines.{lineAt, Below, StandsIn};
-ghost use Rattle.kinds.specs.Sections.{HasKinds, WithKinds};
-ghost use Rattle.by_board.specs.Found.{numbered, Indexed};
+ghost use Rattle.by_board.specs.Found.{numbered, Numbers};
+ghost use Rattle.moves.specs.Moves.{Marks, Mutual, Went, Fed, FedFor};
+ghost use Rattle.moves.specs.Visits.{Site, Keeping, Visited};
 ghost use Rattle.panels.specs.Ways.{FirstReaching};
-ghost use Rattle.panels.specs.Visits.{Site, Visit, Among, FedEach, FedWays, FedBare, FedWithout};
+ghost use Rattle.panels.specs.Visits.{FedEach, FedWays, FedBare, FedWithout};
 use kinds::KindLine;
-use kinds::kind_at;
 use kinds::way;
 
 // Tells whether a set has E or A.
@@ -83,14 +81,14 @@ fn rule6_each(
     cells: &mut [u8],
     marks: &mut [u32],
 ) -> bool
-    requires { ⌜ Mutual v (now cells) × Marks v (now marks) × Site v count (now words) (now found) × Among count lines × (z < v) ⌝ }
-    ensures { λ some. ⌜ Visit v count (now (words .entry)) (FedEach v (now (words .entry)) lines z) (now (cells .entry)) (now (marks .entry)) (now (cells .exit)) (now (marks .exit)) some ⌝ }
+    requires { ⌜ Site v count (now words) (now found) (now cells) (now marks) × Numbers count lines × (z < v) ⌝ }
+    ensures { λ some. ⌜ Visited (Keeping rules6 v) v count (now (words .entry)) (λ ks. FedEach v (now (words .entry)) lines z) (now (cells .entry)) (now (marks .entry)) (now (cells .exit)) (now (marks .exit)) some ⌝ }
 {
     let mut left = lines;
     while left != 0 {
         let n = bits::lowest(left);
         left = bits::without(left, n);
-        let line = kind_at(words, by_board::line_start(found, n));
+        let line = by_board::line_of(words, found, n);
         if !rule6_at(v, words, line, z, cells, marks) {
             return false;
         }
@@ -109,8 +107,8 @@ fn rule6_of_ways(
     cells: &mut [u8],
     marks: &mut [u32],
 ) -> bool
-    requires { ⌜ Mutual v (now cells) × Marks v (now marks) × Site v count (now words) (now found) × (a < v) × (b < v) ⌝ }
-    ensures { λ some. ⌜ Visit v count (now (words .entry)) (FedWays v (now (words .entry)) (now (found .entry)) a b) (now (cells .entry)) (now (marks .entry)) (now (cells .exit)) (now (marks .exit)) some ⌝ }
+    requires { ⌜ Site v count (now words) (now found) (now cells) (now marks) × (a < v) × (b < v) ⌝ }
+    ensures { λ some. ⌜ Visited (Keeping rules6 v) v count (now (words .entry)) (λ ks. FedWays v (now (words .entry)) (now (found .entry)) a b) (now (cells .entry)) (now (marks .entry)) (now (cells .exit)) (now (marks .exit)) some ⌝ }
 {
     let mut left = by_board::places(found, a);
     while left != 0 {
@@ -136,8 +134,8 @@ pub fn rule6_for(
     cells: &mut [u8],
     marks: &mut [u32],
 ) -> bool
-    requires { ⌜ Mutual v (now cells) × Marks v (now marks) × HasKinds v count (now words) × (count ≤ mostKinds) × Indexed count (now words) (now found) × (a < v) × (b < v) ⌝ }
-    ensures { λ some. ⌜ WithKinds v count (now (words .entry)) (λ ks. Went (Idles v (rules2 v ++ rules6 v ks)) v (FedFor v ks a b) (now (cells .entry)) (now (marks .entry)) (now (cells .exit)) (now (marks .exit)) some) ⌝ }
+    requires { ⌜ Site v count (now words) (now found) (now cells) (now marks) × (a < v) × (b < v) ⌝ }
+    ensures { λ some. ⌜ Visited (Keeping rules6 v) v count (now (words .entry)) (λ ks. FedFor v ks a b) (now (cells .entry)) (now (marks .entry)) (now (cells .exit)) (now (marks .exit)) some ⌝ }
 {
     let k = v * a + b;
     let x = cells[k];
@@ -161,10 +159,10 @@ fn rule6_bare(
     cells: &mut [u8],
     marks: &mut [u32],
 ) -> bool
-    requires { ⌜ Mutual v (now cells) × Marks v (now marks) × Site v count (now words) (now found) × (n < count) ⌝ }
-    ensures { λ some. ⌜ Visit v count (now (words .entry)) (FedBare v (numbered (now (words .entry)) n)) (now (cells .entry)) (now (marks .entry)) (now (cells .exit)) (now (marks .exit)) some ⌝ }
+    requires { ⌜ Site v count (now words) (now found) (now cells) (now marks) × (n < count) ⌝ }
+    ensures { λ some. ⌜ Visited (Keeping rules6 v) v count (now (words .entry)) (λ ks. FedBare v (numbered (now (words .entry)) n)) (now (cells .entry)) (now (marks .entry)) (now (cells .exit)) (now (marks .exit)) some ⌝ }
 {
-    let line = kind_at(words, by_board::line_start(found, n));
+    let line = by_board::line_of(words, found, n);
     if line.first < line.end {
         return true;
     }
@@ -185,8 +183,8 @@ pub fn rule6_without_ways(
     cells: &mut [u8],
     marks: &mut [u32],
 ) -> bool
-    requires { ⌜ Mutual v (now cells) × Marks v (now marks) × HasKinds v count (now words) × (count ≤ mostKinds) × Indexed count (now words) (now found) ⌝ }
-    ensures { λ some. ⌜ WithKinds v count (now (words .entry)) (λ ks. Went (Idles v (rules2 v ++ rules6 v ks)) v (FedWithout v ks) (now (cells .entry)) (now (marks .entry)) (now (cells .exit)) (now (marks .exit)) some) ⌝ }
+    requires { ⌜ Site v count (now words) (now found) (now cells) (now marks) ⌝ }
+    ensures { λ some. ⌜ Visited (Keeping rules6 v) v count (now (words .entry)) (FedWithout v) (now (cells .entry)) (now (marks .entry)) (now (cells .exit)) (now (marks .exit)) some ⌝ }
 {
     for n in 0..count {
         if !rule6_bare(v, count, words, found, n, cells, marks) {

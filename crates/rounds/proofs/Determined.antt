@@ -46,7 +46,7 @@ pub drain-determined : OfTwo 4 drain-kinds.ps drain-kinds.r drain.Asked drain.Le
     (λ κs x y d e. SameEnd x y (d .1 .1 .1 .1 .0 .now) (e .1 .1 .1 .1 .0 .now))
 drain-determined κs a asked x y d e p q =
     let v = a .0 in
-    let (ks, fill) = asked .2 .agreed .0 in
+    let (ks, fill) = asked .0 .listed .lines .0 in
     let t = a .1 .1 .1 .1 .0 .now in
     one-end (Again v ks) v t (d .1 .1 .1 .1 .0 .now) (e .1 .1 .1 .1 .0 .now) x y
     (drained-ended v ks t (d .1 .1 .1 .1 .0 .now) (d .1 .1 .1 .1 .1 .0 .now) x (p ks fill))

@@ -22,10 +22,11 @@ use Rattle.by_board.specs.Found.{numbered}
 use Rattle.by_board.proofs.Numbers.{numbered-out, numbered-stands}
 use Rattle.bits.specs.Sets.{wordBits, removed, lowest}
 use Rattle.bits.proofs.Laws.{lowest-has}
-use Rattle.moves.specs.Watches.{through, feeds, feeds′, apart, matches, matches′}
+use Rattle.moves.specs.Watches.{through, feeds, feeds′, apart}
 use Rattle.moves.specs.Moves.{Marks, marks, FirstMarked, Mutual, Moved, Tended, Lost, FedFor, MatchedFor, Owed}
+use Rattle.moves.specs.Visits.{Keeping}
 use Rattle.moves.proofs.Moving.{off-neither, moved-then, moved-as, tended-moved}
-use Rattle.moves.proofs.Reading.{through-honest, feeds-honest, feeds′-honest, apart-honest, matches-honest, matches′-honest}
+use Rattle.moves.proofs.Reading.{through-honest, feeds-honest, feeds′-honest, apart-honest}
 use Rattle.sweeps.specs.Sweeps.{Evenly, ThroughEach, ThroughBoth, Noted}
 use Rattle.rounds.specs.Rounds.{rulesAgain, Settled, Again, Cleared, LinesSeen, Seen, Drained, drained}
 use Rattle.rounds.proofs.Owing.{owed-idle}
@@ -43,10 +44,10 @@ module _ (v : ℕ) (ks : List KindLine) (x : List ℕ) (d : Again v ks x) where
   pub again-three : Evenly v x
   again-three = all-append (Idle v x) (rules2 v) again-two (append-right (Idle v x) (rules7 v ks) (rules3 v) (append-right (Idle v x) (rules6 v ks) _ rest))
 
-  pub again-six : Idles v (rules2 v ++ rules6 v ks) x
+  pub again-six : Keeping rules6 v ks x
   again-six = all-append (Idle v x) (rules2 v) again-two (append-left (Idle v x) (rules6 v ks) _ rest)
 
-  pub again-seven : Idles v (rules2 v ++ rules7 v ks) x
+  pub again-seven : Keeping rules7 v ks x
   again-seven = all-append (Idle v x) (rules2 v) again-two (append-left (Idle v x) (rules7 v ks) (rules3 v) (append-right (Idle v x) (rules6 v ks) _ rest))
 
 -- ---- what was seen to stays so
@@ -65,22 +66,10 @@ module _ {C : List ℕ → Type 0} {v : ℕ} {t m w n : List ℕ} (g : Moved C v
   pub apart-moved : (k l : KindLine) → Tended v m t (apart v k l) → Tended v n w (apart v k l)
   apart-moved k l f = tended-moved g (apart v k l) (apart-honest v k l) f
 
-  lines-moved : {ks : List KindLine} {p q : ℕ} → LinesSeen v ks p q m t → LinesSeen v ks p q n w
-  lines-moved f =
-      record {
-        fed = fed-for-moved (f .fed);
-        fed′ = fed-for-moved (f .fed′);
-        matched =
-            record {
-              panels = λ k a l b i h r. tended-moved g (matches v k l i) (matches-honest v k l i) (f .matched .panels k a l b i h r);
-              ways = λ k a l b e i h r. tended-moved g (matches′ v k l i) (matches′-honest v k l i) (f .matched .ways k a l b e i h r);
-            };
-      }
-
 -- visits to rule 6 from both sides and to rule 7, one after the other
-pub lines-seen : {v : ℕ} {ks : List KindLine} {p q : ℕ} {t m u k u′ k′ w n : List ℕ} → Moved (Idles v (rules2 v ++ rules6 v ks)) v t m u k
-    → FedFor v ks p q k u → Moved (Idles v (rules2 v ++ rules6 v ks)) v u k u′ k′ → FedFor v ks q p k′ u′
-    → Moved (Idles v (rules2 v ++ rules7 v ks)) v u′ k′ w n → MatchedFor v ks p q n w → Moved (Again v ks) v t m w n × LinesSeen v ks p q n w
+pub lines-seen : {v : ℕ} {ks : List KindLine} {p q : ℕ} {t m u k u′ k′ w n : List ℕ} → Moved (Keeping rules6 v ks) v t m u k
+    → FedFor v ks p q k u → Moved (Keeping rules6 v ks) v u k u′ k′ → FedFor v ks q p k′ u′
+    → Moved (Keeping rules7 v ks) v u′ k′ w n → MatchedFor v ks p q n w → Moved (Again v ks) v t m w n × LinesSeen v ks p q n w
 lines-seen {v} {ks} f f6 g g6 h h7 = (
   moved-then (moved-as (again-six v ks) f) (moved-then (moved-as (again-six v ks) g) (moved-as (again-seven v ks) h)),
   record { fed = fed-for-moved h (fed-for-moved g f6); fed′ = fed-for-moved h g6; matched = h7 },
@@ -197,7 +186,7 @@ module _ {v : ℕ} {ks : List KindLine} {t m u k : List ℕ} (d : Draining v ks 
 -- ---- a first closing
 
 module _ {v : ℕ} (ks : List KindLine) {t u k : List ℕ} (f : Noted v t u k) where
-  pub noted-lost : Lost (Idles v (rules2 v ++ rules6 v ks)) v u → Lost (Again v ks) v t
+  pub noted-lost : Lost (Keeping rules6 v ks) v u → Lost (Again v ks) v t
   noted-lost g x h c i = g x h (again-six v ks x c) (f .keeps x (again-two v ks x c) i)
 
   module _ {w n : List ℕ} (g : Moved (Again v ks) v u k w n) where

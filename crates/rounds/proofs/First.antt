@@ -22,6 +22,8 @@ use Rattle.moves.specs.Moves.{Off, Mutual, Moved, Tended, Fed, Matched, Owed}
 use Rattle.moves.proofs.Striking.{cell-some}
 use Rattle.moves.proofs.Moving.{tended-moved}
 use Rattle.moves.proofs.Reading.{through-honest, feeds-honest, feeds′-honest, matches-honest, matches′-honest}
+use Rattle.panels.specs.Visits.{FedWithout}
+use Rattle.same_panels.specs.Visits.{AtFirst}
 
 every-single : T (eachBelow relations (λ r. eqb (compose full (2 ^ r)) full))
 unfolding relations has setTo setOf full singles composed compose
@@ -105,24 +107,19 @@ module _ {v : ℕ} {m t : List ℕ} (u : Mutual v t) (f : Unknown v m t) where
         (T-not (has E above) not-same-above
         (a .member above relations-pos (subst (λ (x : ℕ). T (has x above)) (sym (f (k .p) (l .p) d (o (k .p) (l .p) (refl, refl)))) (lies-full A .member above relations-pos (has-single above))))))
 
--- what was visited for want of a pair that would bring it up: rule 6 of a line without ways, and rule 7 of two lines of different codes or on one panel
-pub record Visited (v : ℕ) (ks : List KindLine) (n w : List ℕ) : Type 0 where
-  pub without : (k : KindLine) → List·Memᴰ k ks → width k ≡ 0 → (z : ℕ) → z < v → Fed v k z n w
-  pub codes : (k : KindLine) → List·Memᴰ k ks → (l : KindLine) → List·Memᴰ l ks → (k .code ≡ l .code → ⊥) → Matched v k l n w
-  pub panels : (k : KindLine) → List·Memᴰ k ks → (l : KindLine) → List·Memᴰ l ks → k .p ≡ l .p → Matched v k l n w
-
--- then what is owed is owed by the list
+-- once what no pair would bring up is visited, rule 6 of lines without ways and rule 7 of two lines of different codes or on one panel, what is owed is owed by
+-- the list
 pub owed-first : {C : List ℕ → Type 0} {v : ℕ} {ks : List KindLine} {t m w n : List ℕ} → Mutual v t → Unknown v m t → Moved C v t m w n → OneArity ks
-    → Visited v ks n w → Owed v ks n w
-owed-first {C} {v} {ks} {t} {m} {w} {n} u f g arity visited =
+    → FedWithout v ks n w → AtFirst v ks n w → Owed v ks n w
+owed-first {C} {v} {ks} {t} {m} {w} {n} u f g arity without unlisted =
     record {
       three = λ p q r hp hq hr. tended-moved g (through v p q r) (through-honest v p q r) (through-first u f p q r);
-      six = λ k a z h. ⊎-elim (λ e. visited .without k a (eqb→eq (width k) 0 e) z h) (λ d. fed k z (some (width k) (T-differ d))) (T-decide (eqb (width k) 0));
+      six = λ k a z h. ⊎-elim (λ e. without k a (eqb→eq (width k) 0 e) z h) (λ d. fed k z (some (width k) (T-differ d))) (T-decide (eqb (width k) 0));
       seven =
           λ k a l b.
           ⊎-elim
-          (λ e. ⊎-elim (λ p. visited .panels k a l b (eqb→eq (k .p) (l .p) p)) (λ d. matched k l (alike k a l b (eqb→eq (k .code) (l .code) e)) (T-differ d)) (T-decide (eqb (k .p) (l .p))))
-          (λ d. visited .codes k a l b (T-differ d)) (T-decide (eqb (k .code) (l .code)));
+          (λ e. ⊎-elim (λ p. unlisted k a l b .panels (eqb→eq (k .p) (l .p) p)) (λ d. matched k l (alike k a l b (eqb→eq (k .code) (l .code) e)) (T-differ d)) (T-decide (eqb (k .p) (l .p))))
+          (λ d. unlisted k a l b .codes (T-differ d)) (T-decide (eqb (k .code) (l .code)));
     }
   where
     some : (x : ℕ) → (x ≡ 0 → ⊥) → 0 < x

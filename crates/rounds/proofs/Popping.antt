@@ -21,7 +21,7 @@ use Rattle.bits.specs.Sets.{removed}
 use Rattle.bits.proofs.Laws.{has-removed, removed-small, ones-removed}
 use Rattle.moves.specs.Watches.{Watch, Honest, Is, through, feeds, feeds′, apart, matches, matches′}
 use Rattle.moves.specs.Moves.{Marks, Off, marks, Mutual, Moved, Tended, Seen, FedFor, MatchedFor, Owed}
-use Rattle.moves.proofs.Moving.{off-mirror, off-both, off-neither, marks-set}
+use Rattle.moves.proofs.Moving.{turned-E, off-mirror, off-both, off-neither, marks-set}
 use Rattle.moves.proofs.Reading.{Told, through-honest, through-told, feeds-honest, feeds-told, feeds′-honest, feeds′-told, apart-honest, matches-honest, matches-told, matches′-honest, matches′-told}
 use Rattle.sweeps.specs.Sweeps.{ThroughEach}
 
@@ -77,10 +77,6 @@ turned-unless : (b : Bool) (x m : ℕ) → converse m liesWithin m → x liesWit
 turned-unless true x m f h = lies-full (converse x)
 turned-unless false x m f h = lies-trans (converse-mono h) f
 
-turned-E : converse E liesWithin E
-unfolding relations has setTo setOf opposite converse
-turned-E = lies-eq refl
-
 turned-apart : converse (complement E) liesWithin complement E
 unfolding relations has setTo setOf opposite converse complement
 turned-apart = lies-eq refl
@@ -128,7 +124,7 @@ module _ {v : ℕ} {n w : List ℕ} (u : Mutual v w) where
         (lies-trans
         (converse-mono
         (says7″ v w l k i (f (λ x y r. is-back (o (k .p) (l .p) (refl, refl)) r))
-        (subst (λ (x : ℕ). x liesWithin E) (sym (u .mirrored (k .p) (l .p) kp lp)) (lies-trans (converse-mono h) turned-E)))) turned-E))
+        (subst (λ (x : ℕ). x liesWithin E) (sym (u .mirrored (k .p) (l .p) kp lp)) (lies-trans (converse-mono h) (lies-eq turned-E))))) (lies-eq turned-E)))
 
 -- ---- what is owed
 

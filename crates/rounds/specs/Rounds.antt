@@ -1,17 +1,15 @@
 -- What a closing by the list of pairs comes to. Assumes nothing.
 use mathlib.Core.Path.{_≡_}
 use mathlib.Core.Bool.{Bool, true, false}
-use mathlib.Core.List.{List, _++_, List·Memᴰ}
-use Prim.Native.Nat.{ℕ, _≤_, _<_}
+use mathlib.Core.List.{List, _++_}
+use Prim.Native.Nat.{ℕ, _<_}
 use lib.ListN.{getD}
-use Rattle.rules.specs.Descriptions.{mostKinds, KindLine}
+use Rattle.rules.specs.Descriptions.{KindLine}
 use Rattle.rules.specs.Tables.{Inside}
 use Rattle.rules.specs.Closing.{Rule, rules2, rules3, rules6, rules7}
 use Rattle.passes.specs.Passes.{Filled, Idles, Kept, Clash}
-use Rattle.kinds.specs.Sections.{HasAgreed, WithKinds}
-use Rattle.by_board.specs.Found.{Indexed}
-use Rattle.moves.specs.Watches.{apart}
-use Rattle.moves.specs.Moves.{Marks, Mutual, Tended, Lost, FedFor, MatchedFor, Owed}
+use Rattle.kinds.specs.Sections.{WithKinds}
+use Rattle.moves.specs.Moves.{Marks, Mutual, Lost, FedFor, MatchedFor, Owed}
 use Rattle.sweeps.specs.Sweeps.{ThroughBoth}
 use Rattle.sweeps.specs.declared.Swept.{Swept}
 use Rattle.sweeps.specs.declared.Swept.the-variants.{Struck, Emptied}
@@ -38,16 +36,6 @@ Cleared v m = (p : ℕ) → p < v → getD m p 0 ≡ 0
 -- rules 2, 6, 7 and 3 strike nothing in x
 abbrev pub Again : ℕ → List KindLine → List ℕ → Type 0
 Again v ks x = Idles v (rulesAgain v ks) x
-
--- kind lines that were read, and where they are found by board
-pub record Listed (v count : ℕ) (ws xs : List ℕ) : Type 0 where
-  pub agreed : HasAgreed v count ws
-  pub few : count ≤ mostKinds
-  pub index : Indexed count ws xs
-
--- panels of different codes are apart
-abbrev pub Apart : ℕ → ℕ → List ℕ → List ℕ → List ℕ → Type 0
-Apart v count ws m t = WithKinds v count ws (λ ks. (k : KindLine) → List·Memᴰ k ks → (l : KindLine) → List·Memᴰ l ks → Tended v m t (apart v k l))
 
 -- each rule that reads the pair (p, q), from either side, is tended: of the kind lines, and with the boards
 pub record LinesSeen (v : ℕ) (ks : List KindLine) (p q : ℕ) (m t : List ℕ) : Type 0 where

@@ -4,9 +4,12 @@ ghost use Rattle.rules.specs.Descriptions.{mostKinds};
 ghost use Rattle.passes.specs.Passes.{Ready};
 ghost use Rattle.sweeps.specs.Sweeps.{Selves};
 ghost use Rattle.kinds.specs.Sections.{HasAgreed, WithKinds};
-ghost use Rattle.moves.specs.Moves.{Marks, Mutual, Went};
+ghost use Rattle.by_board.specs.Found.{Listed};
+ghost use Rattle.moves.specs.Moves.{Marks};
+ghost use Rattle.moves.specs.Visits.{Site, Visited};
+ghost use Rattle.same_panels.specs.Visits.{Parted};
 ghost use Rattle.compositions.specs.Composing.{Composes};
-ghost use Rattle.rounds.specs.Rounds.{Again, Apart, LinesSeen, Seen, Owing, Listed, drained, rulesAgain, afterRounds};
+ghost use Rattle.rounds.specs.Rounds.{Again, LinesSeen, Seen, Owing, drained, rulesAgain, afterRounds};
 use compositions::SET_PAIRS;
 use panels::rule6_for;
 use panels::rule6_without_ways;
@@ -25,8 +28,8 @@ fn revisit_lines(
     cells: &mut [u8],
     marks: &mut [u32],
 ) -> bool
-    requires { ⌜ Mutual v (now cells) × Marks v (now marks) × Listed v count (now words) (now found) × (p < v) × (q < v) × Apart v count (now words) (now marks) (now cells) ⌝ }
-    ensures { λ some. ⌜ WithKinds v count (now (words .entry)) (λ ks. Went (Again v ks) v (LinesSeen v ks p q) (now (cells .entry)) (now (marks .entry)) (now (cells .exit)) (now (marks .exit)) some) ⌝ }
+    requires { ⌜ Site v count (now words) (now found) (now cells) (now marks) × (p < v) × (q < v) × Parted v count (now words) (now marks) (now cells) ⌝ }
+    ensures { λ some. ⌜ Visited (Again v) v count (now (words .entry)) (λ ks. LinesSeen v ks p q) (now (cells .entry)) (now (marks .entry)) (now (cells .exit)) (now (marks .exit)) some ⌝ }
 {
     if !rule6_for(v, count, words, found, p, q, cells, marks) {
         return false;
@@ -49,8 +52,8 @@ fn revisit(
     cells: &mut [u8],
     marks: &mut [u32],
 ) -> bool
-    requires { ⌜ Mutual v (now cells) × Marks v (now marks) × Listed v count (now words) (now found) × Composes (now entries) × (p < v) × (q < v) × Apart v count (now words) (now marks) (now cells) ⌝ }
-    ensures { λ some. ⌜ WithKinds v count (now (words .entry)) (λ ks. Went (Again v ks) v (Seen v ks p q) (now (cells .entry)) (now (marks .entry)) (now (cells .exit)) (now (marks .exit)) some) ⌝ }
+    requires { ⌜ Site v count (now words) (now found) (now cells) (now marks) × Composes (now entries) × (p < v) × (q < v) × Parted v count (now words) (now marks) (now cells) ⌝ }
+    ensures { λ some. ⌜ Visited (Again v) v count (now (words .entry)) (λ ks. Seen v ks p q) (now (cells .entry)) (now (marks .entry)) (now (cells .exit)) (now (marks .exit)) some ⌝ }
 {
     if !sweeps::through(v, entries, p, q, cells, marks) {
         return false;
@@ -70,7 +73,7 @@ pub fn drain(
     cells: &mut [u8],
     marks: &mut [u32],
 ) -> bool
-    requires { ⌜ Mutual v (now cells) × Marks v (now marks) × Listed v count (now words) (now found) × Owing v count (now words) (now marks) (now cells) ⌝ }
+    requires { ⌜ Site v count (now words) (now found) (now cells) (now marks) × Owing v count (now words) (now marks) (now cells) ⌝ }
     ensures { λ some. ⌜ WithKinds v count (now (words .entry)) (λ ks. drained v ks (now (cells .entry)) (now (cells .exit)) (now (marks .exit)) some) ⌝ }
 {
     let entries = compositions::composition_table();

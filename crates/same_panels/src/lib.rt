@@ -3,21 +3,20 @@ ghost use mathlib.Core.Path.{_≡_};
 ghost use mathlib.Core.List.{_++_};
 ghost use Prim.Native.Nat.{_≤_, _<_};
 ghost use lib.ListN.{length};
-ghost use Rattle.rules.specs.Descriptions.{mostBoards, mostKinds, SameArity};
+ghost use Rattle.rules.specs.Descriptions.{mostBoards, SameArity};
 ghost use Rattle.rules.specs.Closing.{rules2, rule7, rules7};
 ghost use Rattle.passes.specs.Passes.{Ready, Idles};
-ghost use Rattle.kinds.specs.Lines.{kindAt, lineAt, StandsIn};
-ghost use Rattle.kinds.specs.Sections.{WithKinds, HasAgreed};
-ghost use Rattle.by_board.specs.Found.{startOf, Indexed};
+ghost use Rattle.kinds.specs.Lines.{lineAt, StandsIn};
+ghost use Rattle.by_board.specs.Found.{Numbers};
 ghost use Rattle.moves.specs.Moves.{Marks, Mutual, Went, Matched, MatchedFor};
+ghost use Rattle.moves.specs.Visits.{Site, Keeping, Visited};
 ghost use Rattle.same_panels.specs.Pairs.{Facing, pairPlace, paired, joined, Joined};
-ghost use Rattle.same_panels.specs.Visits.{Listed, Begun, Numbers, Visited, Beside, Each, ByWays, Parted, Unlisted, FirstBeside, AtFirst};
-use by_board::line_start;
+ghost use Rattle.same_panels.specs.Visits.{Beside, Each, ByWays, Parted, Unlisted, FirstBeside, AtFirst};
+use by_board::line_of;
 use by_board::places;
 use by_board::with_panel;
 use by_board::with_way;
 use kinds::KindLine;
-use kinds::kind_at;
 use kinds::way;
 
 // The place of the cell of the two ways in place i.
@@ -87,14 +86,6 @@ fn rule7(
     match_ways(v, ways, others, cells, marks)
 }
 
-// Kind line n.
-fn line_of(words: &[u16], found: &[u32], n: usize) -> KindLine
-    requires { ⌜ Begun (now words) (now found) n ⌝ }
-    ensures { λ line. ⌜ line ≡ kindAt (now (words .entry)) (startOf (now (words .entry)) n) ⌝ }
-{
-    kind_at(words, line_start(found, n))
-}
-
 // Rule 7 of kind line n beside each of a set. Says whether no empty cell was met, as all below do.
 fn rule7_beside(
     v: usize,
@@ -106,8 +97,8 @@ fn rule7_beside(
     cells: &mut [u8],
     marks: &mut [u32],
 ) -> bool
-    requires { ⌜ Mutual v (now cells) × Marks v (now marks) × Listed v count (now words) (now found) × (n < count) × Numbers count others ⌝ }
-    ensures { λ some. ⌜ Visited v count (now (words .entry)) (λ ks. Beside v (now (words .entry)) n others) (now (cells .entry)) (now (marks .entry)) (now (cells .exit)) (now (marks .exit)) some ⌝ }
+    requires { ⌜ Site v count (now words) (now found) (now cells) (now marks) × (n < count) × Numbers count others ⌝ }
+    ensures { λ some. ⌜ Visited (Keeping rules7 v) v count (now (words .entry)) (λ ks. Beside v (now (words .entry)) n others) (now (cells .entry)) (now (marks .entry)) (now (cells .exit)) (now (marks .exit)) some ⌝ }
 {
     let line = line_of(words, found, n);
     let mut left = others;
@@ -133,8 +124,8 @@ fn rule7_each(
     cells: &mut [u8],
     marks: &mut [u32],
 ) -> bool
-    requires { ⌜ Mutual v (now cells) × Marks v (now marks) × Listed v count (now words) (now found) × Numbers count lines × Numbers count others ⌝ }
-    ensures { λ some. ⌜ Visited v count (now (words .entry)) (λ ks. Each v (now (words .entry)) lines others) (now (cells .entry)) (now (marks .entry)) (now (cells .exit)) (now (marks .exit)) some ⌝ }
+    requires { ⌜ Site v count (now words) (now found) (now cells) (now marks) × Numbers count lines × Numbers count others ⌝ }
+    ensures { λ some. ⌜ Visited (Keeping rules7 v) v count (now (words .entry)) (λ ks. Each v (now (words .entry)) lines others) (now (cells .entry)) (now (marks .entry)) (now (cells .exit)) (now (marks .exit)) some ⌝ }
 {
     let mut left = lines;
     while left != 0 {
@@ -158,8 +149,8 @@ fn rule7_by_ways(
     cells: &mut [u8],
     marks: &mut [u32],
 ) -> bool
-    requires { ⌜ Mutual v (now cells) × Marks v (now marks) × Listed v count (now words) (now found) × (a < mostBoards) × (b < mostBoards) ⌝ }
-    ensures { λ some. ⌜ Visited v count (now (words .entry)) (λ ks. ByWays v (now (words .entry)) (now (found .entry)) a b) (now (cells .entry)) (now (marks .entry)) (now (cells .exit)) (now (marks .exit)) some ⌝ }
+    requires { ⌜ Site v count (now words) (now found) (now cells) (now marks) × (a < mostBoards) × (b < mostBoards) ⌝ }
+    ensures { λ some. ⌜ Visited (Keeping rules7 v) v count (now (words .entry)) (λ ks. ByWays v (now (words .entry)) (now (found .entry)) a b) (now (cells .entry)) (now (marks .entry)) (now (cells .exit)) (now (marks .exit)) some ⌝ }
 {
     let mut left = places(found, a) & places(found, b);
     while left != 0 {
@@ -186,8 +177,8 @@ pub fn rule7_for(
     cells: &mut [u8],
     marks: &mut [u32],
 ) -> bool
-    requires { ⌜ Mutual v (now cells) × Marks v (now marks) × HasAgreed v count (now words) × (count ≤ mostKinds) × Indexed count (now words) (now found) × (a < v) × (b < v) × WithKinds v count (now words) (λ ks. Parted v ks (now marks) (now cells)) ⌝ }
-    ensures { λ some. ⌜ WithKinds v count (now (words .entry)) (λ ks. Went (Idles v (rules2 v ++ rules7 v ks)) v (MatchedFor v ks a b) (now (cells .entry)) (now (marks .entry)) (now (cells .exit)) (now (marks .exit)) some) ⌝ }
+    requires { ⌜ Site v count (now words) (now found) (now cells) (now marks) × (a < v) × (b < v) × Parted v count (now words) (now marks) (now cells) ⌝ }
+    ensures { λ some. ⌜ Visited (Keeping rules7 v) v count (now (words .entry)) (λ ks. MatchedFor v ks a b) (now (cells .entry)) (now (marks .entry)) (now (cells .exit)) (now (marks .exit)) some ⌝ }
 {
     let k = v * a + b;
     let x = cells[k];
@@ -230,8 +221,8 @@ fn rule7_first_beside(
     cells: &mut [u8],
     marks: &mut [u32],
 ) -> bool
-    requires { ⌜ Mutual v (now cells) × Marks v (now marks) × Listed v count (now words) (now found) × (n < count) ⌝ }
-    ensures { λ some. ⌜ Visited v count (now (words .entry)) (λ ks. FirstBeside v count (now (words .entry)) n) (now (cells .entry)) (now (marks .entry)) (now (cells .exit)) (now (marks .exit)) some ⌝ }
+    requires { ⌜ Site v count (now words) (now found) (now cells) (now marks) × (n < count) ⌝ }
+    ensures { λ some. ⌜ Visited (Keeping rules7 v) v count (now (words .entry)) (λ ks. FirstBeside v count (now (words .entry)) n) (now (cells .entry)) (now (marks .entry)) (now (cells .exit)) (now (marks .exit)) some ⌝ }
 {
     let line = line_of(words, found, n);
     for o in 0..count {
@@ -252,8 +243,8 @@ pub fn rule7_at_first(
     cells: &mut [u8],
     marks: &mut [u32],
 ) -> bool
-    requires { ⌜ Mutual v (now cells) × Marks v (now marks) × HasAgreed v count (now words) × (count ≤ mostKinds) × Indexed count (now words) (now found) ⌝ }
-    ensures { λ some. ⌜ WithKinds v count (now (words .entry)) (λ ks. Went (Idles v (rules2 v ++ rules7 v ks)) v (AtFirst v ks) (now (cells .entry)) (now (marks .entry)) (now (cells .exit)) (now (marks .exit)) some) ⌝ }
+    requires { ⌜ Site v count (now words) (now found) (now cells) (now marks) ⌝ }
+    ensures { λ some. ⌜ Visited (Keeping rules7 v) v count (now (words .entry)) (AtFirst v) (now (cells .entry)) (now (marks .entry)) (now (cells .exit)) (now (marks .exit)) some ⌝ }
 {
     for n in 0..count {
         if !rule7_first_beside(v, count, words, found, n, cells, marks) {

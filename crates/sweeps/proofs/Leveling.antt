@@ -7,20 +7,20 @@ use Prim.Native.Nat.{ℕ, _+_, _*_, _<_}
 use native.Mathlib.Omega.{arith}
 use lib.Dec.{T, eqb, eqb→eq, not-T}
 use lib.ListN.{length, getD}
-use Rattle.rules.specs.Relations.{relations, E, same, opposite, has, setTo, setOf, full, setLimit, _liesWithin_, converse}
+use Rattle.rules.specs.Relations.{relations, E, same, has, setTo, setOf, full, setLimit, _liesWithin_, converse}
 use Rattle.rules.specs.Tables.{cell, Inside, emptied}
 use Rattle.rules.specs.Closing.{rules2}
 use Rattle.rules.proofs.Tests.{order-cases, T-decide, T-differ}
 use Rattle.rules.proofs.Digits.{has-zero, has-single}
 use Rattle.rules.proofs.Sets.{setOf-small, lies-trans, lies-antisym, lies-full, lies-one, meet-left, meet-right, meet-largest}
-use Rattle.rules.proofs.Composition.{converse-small, converse-mono, converse-converse, converse-single, converse-zero}
+use Rattle.rules.proofs.Composition.{converse-small, converse-mono, converse-converse, converse-zero}
 use Rattle.rules.proofs.Rules.{same-small}
 use Rattle.rules.proofs.Inside.{each-place, inside-refl, inside-trans, emptied-out}
 use Rattle.passes.specs.Passes.{Filled, Idles, Ready}
 use Rattle.moves.specs.Moves.{Marks, Off, Mirrored, writtenBoth, noted, Lost}
 use Rattle.moves.proofs.Striking.{equal-true, within-none, written-here, written-there, put-idle, put-some, put-lost}
 use Rattle.moves.proofs.Passing.{turned}
-use Rattle.moves.proofs.Moving.{place-one, both-inside, both-table, both-keeps, both-other, noted-list, noted-off, noted-here, off-mirror, off-both}
+use Rattle.moves.proofs.Moving.{place-one, turned-E, both-inside, both-table, both-keeps, both-other, noted-list, noted-off, noted-here, off-mirror, off-both}
 use Rattle.sweeps.specs.Sweeps.{Selves, allowed, Level, Sided, Sides, Noted}
 
 full-small : full < setLimit
@@ -35,10 +35,6 @@ turned-full : converse full ≡ full
 turned-full =
     lies-antisym (converse-small full) full-small (lies-full (converse full))
     (subst (λ (x : ℕ). x liesWithin converse full) (converse-converse full full-small) (converse-mono (lies-full (converse full))))
-
-turned-E : converse E ≡ E
-unfolding opposite
-turned-E = converse-single same same-small
 
 full-some : full ≡ 0 → ⊥
 full-some e = subst T (has-zero same) (subst (λ (x : ℕ). T (has x same)) e (lies-full E .member same same-small (has-single same)))

@@ -39,9 +39,11 @@ drain-requires c κs =
     let start = c .before .before .before .before .before .before .before in
     let d = described (start .args .words .now) (start .args .h) (start .pre .0 .header) in
     let l = start .pre .1 (d .0) (d .1 .means) in (
-      subst (λ (n : ℕ). Mutual n (start .args .cells .now)) (sym (d .1 .boards)) (l .fit),
-      subst (λ (n : ℕ). Marks n (start .args .marks .now)) (sym (d .1 .boards)) (l .list),
-      record { agreed = described-agreed (d .1); few = d .1 .few-kinds; index = start .pre .0 .index },
+      record {
+        table = subst (λ (n : ℕ). Mutual n (start .args .cells .now)) (sym (d .1 .boards)) (l .fit);
+        list = subst (λ (n : ℕ). Marks n (start .args .marks .now)) (sym (d .1 .boards)) (l .list);
+        listed = record { lines = described-agreed (d .1); few = d .1 .few-kinds; told = start .pre .0 .index };
+      },
       λ ks e.
           subst (λ (js : List _). Owed (start .args .h .boards) js (start .args .marks .now) (start .args .cells .now)) (described-kinds (d .1) e)
           (subst (λ (n : ℕ). Owed n (d .0 .kinds) (start .args .marks .now) (start .args .cells .now)) (sym (d .1 .boards)) (l .owed)),

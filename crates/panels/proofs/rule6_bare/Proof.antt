@@ -1,73 +1,65 @@
 -- `rule6_bare` meets its contract: the rule is seen to towards the boards that were passed. The measure is the boards left. Assumes nothing.
-use mathlib.Core.Path.{_≡_, _∙_, subst}
+use mathlib.Core.Path.{_≡_, subst}
 use Prim.Native.Nat.{_-_}
 use native.Mathlib.Omega.{arith}
+use borrow.Author.Needs.{needs}
 use Rattle.rules.specs.Descriptions.{KindLine}
 use Rattle.rules.specs.Arrangements.{width}
+use Rattle.rules.specs.Closing.{rules6}
 use Rattle.by_board.specs.Found.{numbered}
+use Rattle.by_board.proofs.Asking.{line-located, located-stands, located-line}
 use Rattle.moves.specs.Moves.{Fed}
+use Rattle.moves.specs.Visits.{Keeping}
 use Rattle.moves.proofs.Moving.{moved-none}
-use Rattle.panels.proofs.Visiting.{moves-cells, moves-marks, Below, below-none, below-next, below-lost, found-there, found-stands, found-line, visit-line, board-lasting, line-some}
+use Rattle.moves.proofs.Passing.{Counting, counting-none, counting-lost, counting-next}
+use Rattle.panels.proofs.Visiting.{steady-line, line-visited, line-some}
 use Rattle.panels.proofs.rule6_bare.Statement.{statement}
 use Rattle.panels.proofs.rule6_bare.Tie as tie
 
 abbrev Inv-loop : tie.InvT-loop
 Inv-loop v count words found n cells₀ marks₀ line z₀ cells marks z =
-    Below v count words (λ y. Fed v (numbered words n) y) cells₀ marks₀ z cells marks
+    Counting (Keeping rules6 v) v count words found (Fed v (numbered words n)) z cells₀ marks₀ cells marks
 
 abbrev μ-loop : tie.MeasureT-loop
 μ-loop v count words found n cells₀ marks₀ line z₀ cells marks z = v - z
 
-line-start-requires : tie.Need-line-start-requires Inv-loop μ-loop
-line-start-requires c κs = let pre = c .before .before .before .before .pre in (pre .2 .2 .words, omega (arith, pre .2 .1, pre .3))
-
-kind-at-requires : tie.Need-kind-at-requires Inv-loop μ-loop
-kind-at-requires c κs = let pre = c .before .before .before .before .before .pre in found-there _ (pre .2) (pre .3) (c .line-start .ensures)
+line-of-requires : tie.Need-line-of-requires Inv-loop μ-loop
+line-of-requires c κs = let pre = c .before .before .before .before .pre in line-located (pre .0 .listed) (pre .1)
 
 returns : tie.Need-returns Inv-loop μ-loop
 returns c =
-    let pre = c .before .before .before .before .before .before .before .before .pre in
-    let at = c .before .before .before .line-start .ensures in
-    let is = c .before .before .kind-at .ensures in
-    let some = line-some (found-stands _ (pre .2) (pre .3) at is) (c .if1 .taken) in
-    λ ks fill. (moved-none (pre .0) (pre .1), λ e. absurd (some (subst (λ (k : KindLine). width k ≡ 0) (found-line _ (pre .2) (pre .3) at is) e)))
+    let start = c .before .before .before .before .before .before .before in
+    let is = c .before .before .line-of .ensures in
+    let some = line-some (located-stands (start .pre .0 .listed) (start .pre .1) is) (c .if1 .taken) in
+    λ ks fill. (
+      moved-none (start .pre .0 .table) (start .pre .0 .list),
+      λ e. absurd (some (subst (λ (k : KindLine). width k ≡ 0) (located-line (start .args .words .now) (start .args .n) is) e)),
+    )
 
 loop-holds : tie.Need-loop-holds Inv-loop μ-loop
-loop-holds c = let pre = c .before .before .before .before .before .before .before .before .pre in below-none _ _ _ _ (pre .0) (pre .1)
+loop-holds c = counting-none (c .before .before .before .before .before .before .before .pre .0)
 
 rule6-at-requires : tie.Need-rule6-at-requires Inv-loop μ-loop
 rule6-at-requires c κs =
-    let pre = c .before .before .before .before .before .before .before .before .before .before .before .before .pre in
-    let moved = c .before .before .before .loop .inv .moved (pre .2 .0 .0) (pre .2 .0 .1) in (
-      moved .fit,
-      moved .list,
-      found-stands _ (pre .2) (pre .3) (c .before .before .before .before .before .before .before .line-start .ensures)
-          (c .before .before .before .before .before .before .kind-at .ensures),
-      c .before .before .loop-test .taken,
-    )
+    let turn = c .before .before .before in
+    let start = turn .before .before .before .before .before .before .before .before in
+    let site = turn .loop .inv .going .site in
+    (site .table, site .list, located-stands (site .listed) (start .pre .1) (turn .before .before .before .line-of .ensures), c .before .before .loop-test .taken)
 
 same-length : tie.Need-same-length Inv-loop μ-loop
-same-length c =
-    let turn = c .before .before .before .before .before .before .before .before .before in
-    let pre = turn .before .before .before .before .before .before .before .before .before .pre in
-    c .before .before .before .before .cells .given ∙ moves-cells _ _ _ (pre .2 .0) (turn .loop .inv .moved)
+same-length c = search needs
 
 same-length-2 : tie.Need-same-length-2 Inv-loop μ-loop
-same-length-2 c =
-    let turn = c .before .before .before .before .before .before .before .before .before in
-    let pre = turn .before .before .before .before .before .before .before .before .before .pre in
-    c .before .before .marks .given ∙ moves-marks _ _ _ (pre .2 .0) (turn .loop .inv .moved) (pre .1)
+same-length-2 c = search needs
 
 returns-2 : tie.Need-returns-2 Inv-loop μ-loop
 returns-2 c =
-    let went = c .before .before .before .before .before in
-    let turn = went .before .before .before .before in
-    let pre = turn .before .before .before .before .before .before .before .before .before .pre in
-    let visit =
-    visit-line _ (pre .2) (pre .3) (turn .before .before .before .before .line-start .ensures) (turn .before .before .before .kind-at .ensures)
-    (went .before .before .before .loop-test .taken) _ _ _ _ (went .rule6-at .result)
-    (went .rule6-at .ensures) in
-    below-lost _ _ _ _ (turn .loop .inv) _ _ _ (went .rule6-at .result) visit (c .if2 .taken)
+    let call = c .before .before .before .before .before in
+    let turn = call .before .before .before .before in
+    let start = turn .before .before .before .before .before .before .before .before in
+    counting-lost (turn .loop .inv) _ _ (call .rule6-at .result)
+    (line-visited _ _ _ (start .pre .1) (turn .before .before .before .line-of .ensures) (call .before .before .before .loop-test .taken) _ _ _ _
+    (call .rule6-at .result) (call .rule6-at .ensures)) (c .if2 .taken)
 
 add-z : tie.Need-add-z Inv-loop μ-loop
 add-z c = omega arith
@@ -77,30 +69,23 @@ loop-less c = omega arith
 
 loop-again : tie.Need-loop-again Inv-loop μ-loop
 loop-again c =
-    let went = c .before .before .before .before .before in
-    let turn = went .before .before .before .before in
-    let pre = turn .before .before .before .before .before .before .before .before .before .pre in
-    let visit =
-    visit-line _ (pre .2) (pre .3) (turn .before .before .before .before .line-start .ensures) (turn .before .before .before .kind-at .ensures)
-    (went .before .before .before .loop-test .taken) _ _ _ _ (went .rule6-at .result)
-    (went .rule6-at .ensures) in
-    below-next _ _ _ _ (turn .loop .inv) (board-lasting _ _) (pre .2 .0) _ _ (went .rule6-at .result) visit (c .if2 .left)
+    let call = c .before .before .before .before .before in
+    let turn = call .before .before .before .before in
+    let start = turn .before .before .before .before .before .before .before .before in
+    counting-next (turn .loop .inv) _ _ (call .rule6-at .result)
+    (line-visited _ _ _ (start .pre .1) (turn .before .before .before .line-of .ensures) (call .before .before .before .loop-test .taken) _ _ _ _
+    (call .rule6-at .result) (call .rule6-at .ensures)) (λ z. steady-line _ _ _) (c .if2 .left)
 
 same-length-3 : tie.Need-same-length-3 Inv-loop μ-loop
-same-length-3 c =
-    let pre = c .before .before .before .before .before .before .before .before .before .before .pre in
-    moves-cells _ _ _ (pre .2 .0) (c .before .loop .inv .moved)
+same-length-3 c = search needs
 
 same-length-4 : tie.Need-same-length-4 Inv-loop μ-loop
-same-length-4 c =
-    let pre = c .before .before .before .before .before .before .before .before .before .before .pre in
-    moves-marks _ _ _ (pre .2 .0) (c .before .loop .inv .moved) (pre .1)
+same-length-4 c = search needs
 
 returns-3 : tie.Need-returns-3 Inv-loop μ-loop
 returns-3 c =
-    let turn = c .before in
-    let passed = c .loop-test .left in
-    λ ks fill. (turn .loop .inv .moved ks fill, λ e z h. turn .loop .inv .seen z (omega arith))
+    let p = c .before .loop .inv in
+    λ ks fill. (p .going .gone ks fill, λ e z h. p .done z (omega (arith, c .loop-test .left)))
 
 pub rule6-bare-spec : {M : Type 1} → statement M
 rule6-bare-spec =
@@ -108,8 +93,7 @@ rule6-bare-spec =
     (tie.spec
     Inv-loop
     μ-loop
-    line-start-requires
-    kind-at-requires
+    line-of-requires
     returns
     loop-holds
     rule6-at-requires

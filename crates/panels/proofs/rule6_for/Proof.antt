@@ -4,18 +4,19 @@ use native.Mathlib.Omega.{arith}
 use borrow.Author.Needs.{needs}
 use Rattle.rules.proofs.Tests.{true-T}
 use Rattle.passes.proofs.Passes.{place-few, ready-place}
-use Rattle.panels.proofs.Finding.{found-among, visit-panel, visit-none, visit-ways}
+use Rattle.by_board.proofs.Asking.{found-numbers}
+use Rattle.panels.proofs.Finding.{visit-panel, visit-none, visit-ways}
 use Rattle.panels.proofs.rule6_for.Statement.{statement}
 use Rattle.panels.proofs.rule6_for.Tie as tie
 
 mul-k : tie.Need-mul-k
-mul-k c = let pre = c .before .before .before .before .pre in record { fits = omega (arith, place-few (pre .0 .ready .boards) (pre .5) (pre .6)) }
+mul-k c = let pre = c .before .before .before .before .pre in record { fits = omega (arith, place-few (pre .0 .table .ready .boards) (pre .1) (pre .2)) }
 
 add-k : tie.Need-add-k
-add-k c = let pre = c .before .before .before .before .pre in record { fits = omega (arith, place-few (pre .0 .ready .boards) (pre .5) (pre .6)) }
+add-k c = let pre = c .before .before .before .before .pre in record { fits = omega (arith, place-few (pre .0 .table .ready .boards) (pre .1) (pre .2)) }
 
 slice-read-x : tie.Need-slice-read-x
-slice-read-x c = let pre = c .before .before .before .before .before .pre in ready-place (pre .0 .ready) (pre .5) (pre .6)
+slice-read-x c = let pre = c .before .before .before .before .before .pre in ready-place (pre .0 .table .ready) (pre .1) (pre .2)
 
 with-panel-requires : tie.Need-with-panel-requires
 with-panel-requires c κs = search needs
@@ -23,8 +24,7 @@ with-panel-requires c κs = search needs
 rule6-each-requires : tie.Need-rule6-each-requires
 rule6-each-requires c κs =
     let pre = c .before .before .before .before .before .before .before .before .before .pre in
-    let few = found-among (pre .4) _ (c .before .before .with-panel .ensures) (omega (arith, pre .0 .ready .boards, pre .5, pre .6)) in
-    (pre .0, pre .1, (pre .2, pre .3, pre .4), few, omega (arith, pre .5, pre .6))
+    (pre .0, found-numbers (pre .0 .listed) _ (c .before .before .with-panel .ensures) (omega (arith, pre .0 .table .ready .boards, pre .1, pre .2)), pre .2)
 
 same-length : tie.Need-same-length
 same-length c = search needs
@@ -36,18 +36,16 @@ returns : tie.Need-returns
 returns c =
     let went = c .before .before .before .before in
     let pre = went .before .before .before .before .before .before .before .before .before .before .pre in
-    visit-panel (pre .2, pre .3, pre .4) (pre .5) (pre .6) (pre .0) (pre .1) (went .before .before .before .with-panel .ensures)
-    (went .before .before .before .before .if1 .taken) _ _ (went .rule6-each .result)
-    (went .rule6-each .ensures)
+    visit-panel (pre .0) (pre .1) (pre .2) (went .before .before .before .with-panel .ensures) (went .before .before .before .before .if1 .taken) _ _
+    (went .rule6-each .result) (went .rule6-each .ensures)
 
 reaches-requires : tie.Need-reaches-requires
-reaches-requires c κs = c .before .before .before .before .before .before .pre .0 .ready .table .small _
+reaches-requires c κs = c .before .before .before .before .before .before .pre .0 .table .ready .table .small _
 
 returns-2 : tie.Need-returns-2
 returns-2 c =
     let pre = c .before .before .before .before .before .before .before .before .pre in
-    visit-none (pre .2, pre .3, pre .4) (pre .5) (pre .6) (pre .0) (pre .1) (true-T (sym (c .before .reaches .ensures) ∙ c .if2 .taken))
-    (c .before .before .if1 .left)
+    visit-none (pre .0) (pre .1) (pre .2) (true-T (sym (c .before .reaches .ensures) ∙ c .if2 .taken)) (c .before .before .if1 .left)
 
 rule6-of-ways-requires : tie.Need-rule6-of-ways-requires
 rule6-of-ways-requires c κs = search needs
@@ -62,8 +60,7 @@ returns-3 : tie.Need-returns-3
 returns-3 c =
     let went = c .before .before .before .before in
     let pre = went .before .before .before .before .before .before .before .before .before .before .before .pre in
-    visit-ways (pre .2, pre .3, pre .4) (pre .5) (pre .6) (pre .0) (pre .1) (went .before .before .before .before .before .if1 .left) _ _
-    (went .rule6-of-ways .result) (went .rule6-of-ways .ensures)
+    visit-ways (pre .0) (pre .1) (pre .2) (went .before .before .before .before .before .if1 .left) _ _ (went .rule6-of-ways .result) (went .rule6-of-ways .ensures)
 
 pub rule6-for-spec : {M : Type 1} → statement M
 rule6-for-spec =

@@ -2,8 +2,8 @@
 use mathlib.Core.Path.{subst}
 use native.Mathlib.Omega.{arith}
 use borrow.Author.Needs.{needs}
+use borrow.Author.Tests.{not-true, not-false}
 use Rattle.rules.proofs.Inside.{total-mono}
-use Rattle.moves.proofs.Striking.{not-so, not-not-so}
 use Rattle.rounds.specs.Rounds.{drained}
 use Rattle.rounds.proofs.Draining.{drained-settled, empty-list, cells-few}
 use Rattle.rounds.proofs.rounds.Statement.{statement}
@@ -35,26 +35,26 @@ slice-aggregate-settle-2 c = search needs
 settle-requires : tie.Need-settle-requires
 settle-requires c κs =
     let pre = c .before .before .before .before .before .before .before .before .before .before .before .before .pre in
-    (pre .0, pre .3, empty-list _ (c .before .before .before .marks-room .ensures), record { agreed = pre .1; few = pre .2; index = c .before .before .before .before .before .index .ensures })
+    (pre .0, pre .3, empty-list _ (c .before .before .before .marks-room .ensures), record { lines = pre .1; few = pre .2; told = c .before .before .before .before .before .index .ensures })
 
 same-length : tie.Need-same-length
 same-length c = search needs
 
 returns : tie.Need-returns
 returns c = λ ks e x h i d.
-    subst (drained _ _ _ _ _) (not-so (c .before .before .before .before .settle .result) (c .if1 .taken)) (c .before .before .before .before .settle .ensures ks e) x h d i
+    subst (drained _ _ _ _ _) (not-true (c .before .before .before .before .settle .result) (c .if1 .taken)) (c .before .before .before .before .settle .ensures ks e) x h d i
 
 members-requires-2 : tie.Need-members-requires-2
 members-requires-2 c κs =
     let pre = c .before .before .before .before .before .before .before .before .before .before .before .before .before .before .before .before .before .before .pre in
     let has = pre .1 .0 in
-    let left = subst (drained _ _ _ _ _) (not-not-so (c .before .before .before .before .before .settle .result) (c .before .if1 .left)) (c .before .before .before .before .before .settle .ensures (has .0) (has .1)) in
+    let left = subst (drained _ _ _ _ _) (not-false (c .before .before .before .before .before .settle .result) (c .before .if1 .left)) (c .before .before .before .before .before .settle .ensures (has .0) (has .1)) in
     (left .fit .ready .table .small, cells-few (left .fit .ready))
 
 sub-struck : tie.Need-sub-struck
 sub-struck c =
     let has = c .before .before .before .before .before .before .before .before .before .before .before .before .before .before .before .before .before .before .before .pre .1 .0 in
-    let left = subst (drained _ _ _ _ _) (not-not-so (c .before .before .before .before .before .before .settle .result) (c .before .before .if1 .left)) (c .before .before .before .before .before .before .settle .ensures (has .0) (has .1)) in
+    let left = subst (drained _ _ _ _ _) (not-false (c .before .before .before .before .before .before .settle .result) (c .before .before .if1 .left)) (c .before .before .before .before .before .before .settle .ensures (has .0) (has .1)) in
     omega (arith, total-mono (left .inside), c .members2 .ensures, c .before .before .before .before .before .before .before .before .before .before .before .before .before .before .before .members .ensures)
 
 same-length-2 : tie.Need-same-length-2
@@ -62,7 +62,7 @@ same-length-2 c = search needs
 
 returns-2 : tie.Need-returns-2
 returns-2 c = λ ks e.
-    let left = subst (drained _ _ _ _ _) (not-not-so (c .before .before .before .before .before .before .settle .result) (c .before .before .if1 .left)) (c .before .before .before .before .before .before .settle .ensures ks e) in
+    let left = subst (drained _ _ _ _ _) (not-false (c .before .before .before .before .before .before .settle .result) (c .before .before .if1 .left)) (c .before .before .before .before .before .before .settle .ensures ks e) in
     drained-settled left (c .before .before .before .before .before .before .before .before .before .before .before .before .before .before .before .members .ensures) (c .members2 .ensures)
 
 pub rounds-spec : {M : Type 1} → statement M

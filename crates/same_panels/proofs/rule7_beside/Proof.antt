@@ -1,34 +1,34 @@
 -- `rule7_beside` meets its contract: rule 7 is seen to of the line beside each that is not left. The measure is the set of those left, as a number.
 -- Assumes nothing.
 use borrow.Author.Needs.{needs}
-use borrow.Author.Tests.{not-true, not-false}
 use mathlib.Core.Path.{refl}
 use native.Mathlib.Omega.{arith}
 use Prim.Native.Nat.{_<_}
 use lib.Dec.{T}
 use Rattle.rules.specs.Relations.{has}
+use Rattle.rules.specs.Closing.{rules7}
 use Rattle.bits.specs.Sets.{wordBits}
 use Rattle.by_board.specs.Found.{numbered}
+use Rattle.by_board.proofs.Asking.{line-located}
 use Rattle.moves.specs.Moves.{Matched}
-use Rattle.kinds.specs.Sections.{Kinds}
-use Rattle.moves.proofs.Passing.{Passing, going-fit, passing-none, passing-least, passing-lost, passing-next, passing-end, passing-less}
-use Rattle.same_panels.specs.Visits.{Keeping}
-use Rattle.same_panels.proofs.Visiting.{steady-two, line-begun, two-stand, two-visited}
+use Rattle.moves.specs.Visits.{Keeping}
+use Rattle.moves.proofs.Passing.{Passing, passing-none, passing-least, passing-lost, passing-next, passing-end, passing-less}
+use Rattle.same_panels.proofs.Visiting.{steady-two, two-stand, two-visited}
 use Rattle.same_panels.proofs.rule7_beside.Statement.{statement}
 use Rattle.same_panels.proofs.rule7_beside.Tie as tie
 
 abbrev Inv-loop : tie.InvT-loop
 Inv-loop v count words found n others cells₀ marks₀ line left₀ cells marks left =
-    Passing (Kinds v count words) (Keeping v) v (λ o. Matched v (numbered words n) (numbered words o)) others left cells₀ marks₀ cells marks
+    Passing (Keeping rules7 v) v count words found (λ o. Matched v (numbered words n) (numbered words o)) others left cells₀ marks₀ cells marks
 
 abbrev μ-loop : tie.MeasureT-loop
 μ-loop v count words found n others cells₀ marks₀ line left₀ cells marks left = left
 
 line-of-requires : tie.Need-line-of-requires Inv-loop μ-loop
-line-of-requires c κs = let pre = c .before .before .before .before .pre in line-begun (pre .2) (pre .3)
+line-of-requires c κs = let pre = c .before .before .before .before .pre in line-located (pre .0 .listed) (pre .1)
 
 loop-holds : tie.Need-loop-holds Inv-loop μ-loop
-loop-holds c = let start = c .before .before .before .before .before in passing-none (start .pre .0) (start .pre .1) refl (omega arith)
+loop-holds c = passing-none (c .before .before .before .before .before .pre .0) refl (omega arith)
 
 lowest-requires : tie.Need-lowest-requires Inv-loop μ-loop
 lowest-requires c κs = search needs
@@ -39,18 +39,18 @@ module _ (c : tie.After-lowest Inv-loop μ-loop) where
   met = passing-least (c .before .before .loop .inv) (c .lowest .ensures) (c .before .loop-test .taken)
 
   below : c .lowest .result < c .before .before .before .before .before .before .before .before .args .count
-  below = c .before .before .before .before .before .before .before .before .pre .4 (c .lowest .result) (c .before .before .loop .inv .among (c .lowest .result) (met .1))
+  below = c .before .before .before .before .before .before .before .before .pre .2 (c .lowest .result) (c .before .before .loop .inv .among (c .lowest .result) (met .1))
 
 line-of-requires-2 : tie.Need-line-of-requires-2 Inv-loop μ-loop
-line-of-requires-2 c κs = line-begun (c .before .before .before .before .before .before .before .before .pre .2) (below c)
+line-of-requires-2 c κs = line-located (c .before .before .before .before .before .before .before .before .pre .0 .listed) (below c)
 
 rule7-requires : tie.Need-rule7-requires Inv-loop μ-loop
 rule7-requires c κs =
     let turn = c .before .before .before in
     let start = turn .before .before .before .before .before .before .before .before in
-    let fit = going-fit (start .pre .2 .lines .0) (turn .before .before .loop .inv .going) in
-    let stand = two-stand (start .pre .2) (start .pre .3) (below turn) (turn .before .before .before .line-of .ensures) (c .before .before .line-of2 .ensures) in
-    (fit .0, fit .1, stand .0, stand .1, stand .2)
+    let site = turn .before .before .loop .inv .going .site in
+    let stand = two-stand (site .listed) (start .pre .1) (below turn) (turn .before .before .before .line-of .ensures) (c .before .before .line-of2 .ensures) in
+    (site .table, site .list, stand .0, stand .1, stand .2)
 
 same-length : tie.Need-same-length Inv-loop μ-loop
 same-length c = search needs
@@ -64,8 +64,8 @@ returns c =
     let turn = call .before .before .before .before in
     let start = turn .before .before .before .before .before .before .before .before in
     passing-lost (turn .before .before .loop .inv) (turn .lowest .result) _ _ (call .rule7 .result)
-    (two-visited (start .pre .2) (start .pre .3) (below turn) (turn .before .before .before .line-of .ensures) (call .before .before .before .line-of2 .ensures) (Matched (start .args .v)) _ _ _ _
-    (call .rule7 .result) (call .rule7 .ensures)) (not-true _ (c .if1 .taken))
+    (two-visited (start .pre .0 .listed) (start .pre .1) (below turn) (turn .before .before .before .line-of .ensures) (call .before .before .before .line-of2 .ensures) (Matched (start .args .v)) _ _ _ _
+    (call .rule7 .result) (call .rule7 .ensures)) (c .if1 .taken)
 
 without-requires : tie.Need-without-requires Inv-loop μ-loop
 without-requires c κs = met (c .before .before .before .before .before .before .before .before .before)
@@ -79,9 +79,9 @@ loop-again c =
     let turn = call .before .before .before .before in
     let start = turn .before .before .before .before .before .before .before .before in
     passing-next (turn .before .before .loop .inv) (turn .lowest .result) _ _ (call .rule7 .result)
-    (two-visited (start .pre .2) (start .pre .3) (below turn) (turn .before .before .before .line-of .ensures) (call .before .before .before .line-of2 .ensures) (Matched (start .args .v)) _ _ _ _
-    (call .rule7 .result) (call .rule7 .ensures)) (met turn .1) (c .without .ensures) (start .pre .2 .lines .0) (λ o. steady-two _ _ _ (start .pre .2 .lines .0) _ o)
-    (not-false _ (c .before .if1 .left))
+    (two-visited (start .pre .0 .listed) (start .pre .1) (below turn) (turn .before .before .before .line-of .ensures) (call .before .before .before .line-of2 .ensures) (Matched (start .args .v)) _ _ _ _
+    (call .rule7 .result) (call .rule7 .ensures)) (met turn .1) (c .without .ensures) (λ o. steady-two _ _ _)
+    (c .before .if1 .left)
 
 same-length-3 : tie.Need-same-length-3 Inv-loop μ-loop
 same-length-3 c = search needs

@@ -1,27 +1,28 @@
 -- `rule7_by_ways` meets its contract: rule 7 is seen to of the lines that share each place that is not left. The measure is the set of those left, as a
 -- number. Assumes nothing.
 use borrow.Author.Needs.{needs}
-use borrow.Author.Tests.{not-true, not-false}
-use mathlib.Core.Path.{sym, ap₂, subst}
+use mathlib.Core.Path.{ap₂}
 use Prim.Native.Nat.{_<_}
 use native.Mathlib.Omega.{arith}
 use lib.Bits.{bitAnd}
 use lib.Dec.{T}
 use Rattle.rules.specs.Relations.{has}
 use Rattle.rules.specs.Descriptions.{mostWays}
+use Rattle.rules.specs.Closing.{rules7}
 use Rattle.bits.specs.Sets.{wordBits}
 use Rattle.bits.proofs.Laws.{has-small}
-use Rattle.kinds.specs.Sections.{Kinds}
-use Rattle.moves.proofs.Passing.{Passing, going-fit, passing-none, passing-least, passing-lost, passing-next, passing-end, passing-less}
-use Rattle.same_panels.specs.Visits.{Keeping, Numbers, withWay, InPlace}
+use Rattle.by_board.proofs.Asking.{found-numbers}
+use Rattle.moves.specs.Visits.{Keeping}
+use Rattle.moves.proofs.Passing.{Passing, passing-none, passing-least, passing-lost, passing-next, passing-end, passing-less}
+use Rattle.same_panels.specs.Visits.{InPlace}
 use Rattle.same_panels.proofs.Visiting.{steady-each}
-use Rattle.same_panels.proofs.Finding.{shared, each-visited, way-numbers, shared-small, by-ways}
+use Rattle.same_panels.proofs.Finding.{shared, shared-small, by-ways}
 use Rattle.same_panels.proofs.rule7_by_ways.Statement.{statement}
 use Rattle.same_panels.proofs.rule7_by_ways.Tie as tie
 
 abbrev Inv-loop : tie.InvT-loop
 Inv-loop v count words found a b cells₀ marks₀ left₀ cells marks left =
-    Passing (Kinds v count words) (Keeping v) v (InPlace v words found a b) (shared found a b) left cells₀ marks₀ cells marks
+    Passing (Keeping rules7 v) v count words found (InPlace v words found a b) (shared found a b) left cells₀ marks₀ cells marks
 
 abbrev μ-loop : tie.MeasureT-loop
 μ-loop v count words found a b cells₀ marks₀ left₀ cells marks left = left
@@ -36,7 +37,7 @@ loop-holds : tie.Need-loop-holds Inv-loop μ-loop
 loop-holds c =
     let start = c .before .before .before .before .before .before in
     let set = ap₂ bitAnd (c .before .places .ensures) (c .places2 .ensures) in
-    passing-none (start .pre .0) (start .pre .1) set (omega (arith, set, shared-small (start .pre .2) (start .pre .3) (start .pre .4)))
+    passing-none (start .pre .0) set (omega (arith, set, shared-small (start .pre .0 .listed) (start .pre .1) (start .pre .2)))
 
 lowest-requires : tie.Need-lowest-requires Inv-loop μ-loop
 lowest-requires c κs = search needs
@@ -49,24 +50,21 @@ module _ (c : tie.After-lowest Inv-loop μ-loop) where
   few : c .lowest .result < mostWays
   few =
       let pre = c .before .before .before .before .before .before .before .before .before .pre in
-      has-small mostWays _ (c .lowest .result) (shared-small (pre .2) (pre .3) (pre .4)) (c .before .before .loop .inv .among (c .lowest .result) (met .1))
+      has-small mostWays _ (c .lowest .result) (shared-small (pre .0 .listed) (pre .1) (pre .2)) (c .before .before .loop .inv .among (c .lowest .result) (met .1))
 
 with-way-requires : tie.Need-with-way-requires Inv-loop μ-loop
-with-way-requires c κs = let pre = c .before .before .before .before .before .before .before .before .before .pre in (pre .2 .told .words, pre .3, few c)
+with-way-requires c κs = let pre = c .before .before .before .before .before .before .before .before .before .pre in (pre .0 .listed .told .words, pre .1, few c)
 
 with-way-requires-2 : tie.Need-with-way-requires-2 Inv-loop μ-loop
-with-way-requires-2 c κs = let pre = c .before .before .before .before .before .before .before .before .before .before .pre in (pre .2 .told .words, pre .4, few (c .before))
+with-way-requires-2 c κs = let pre = c .before .before .before .before .before .before .before .before .before .before .pre in (pre .0 .listed .told .words, pre .2, few (c .before))
 
 rule7-each-requires : tie.Need-rule7-each-requires Inv-loop μ-loop
 rule7-each-requires c κs =
     let turn = c .before .before .before .before in
-    let start = turn .before .before .before .before .before .before .before .before .before in
-    let fit = going-fit (start .pre .2 .lines .0) (turn .before .before .loop .inv .going) in
-    let first : Numbers (start .args .count) (c .before .before .before .with-way .result) =
-    subst (Numbers (start .args .count)) (sym (c .before .before .before .with-way .ensures)) (way-numbers (start .pre .2) (start .pre .3) (few turn)) in
-    let second : Numbers (start .args .count) (c .before .before .with-way2 .result) =
-    subst (Numbers (start .args .count)) (sym (c .before .before .with-way2 .ensures)) (way-numbers (start .pre .2) (start .pre .4) (few turn)) in
-    (fit .0, fit .1, start .pre .2, search needs, search needs)
+    let pre = turn .before .before .before .before .before .before .before .before .before .pre in
+    let first = found-numbers (pre .0 .listed) _ (c .before .before .before .with-way .ensures) (omega (arith, pre .1, few turn)) in
+    let second = found-numbers (pre .0 .listed) _ (c .before .before .with-way2 .ensures) (omega (arith, pre .2, few turn)) in
+    (turn .before .before .loop .inv .going .site, search needs, search needs)
 
 same-length : tie.Need-same-length Inv-loop μ-loop
 same-length c = search needs
@@ -78,12 +76,9 @@ returns : tie.Need-returns Inv-loop μ-loop
 returns c =
     let call = c .before .before .before .before .before in
     let turn = call .before .before .before .before .before in
-    let start = turn .before .before .before .before .before .before .before .before .before in
     passing-lost (turn .before .before .loop .inv) (turn .lowest .result) _ _
     (call .rule7-each .result)
-    (each-visited (start .args .v) (start .args .count) (start .args .words .now) (withWay (start .args .found .now) (start .args .a) (turn .lowest .result))
-    (withWay (start .args .found .now) (start .args .b) (turn .lowest .result)) _ _ _ _ (call .rule7-each .result) (call .before .before .before .before .with-way .ensures)
-    (call .before .before .before .with-way2 .ensures) (call .rule7-each .ensures)) (not-true _ (c .if1 .taken))
+    (simp (call .before .before .before .before .with-way .ensures, call .before .before .before .with-way2 .ensures) at (call .rule7-each .ensures)) (c .if1 .taken)
 
 without-requires : tie.Need-without-requires Inv-loop μ-loop
 without-requires c κs = met (c .before .before .before .before .before .before .before .before .before .before)
@@ -95,13 +90,9 @@ loop-again : tie.Need-loop-again Inv-loop μ-loop
 loop-again c =
     let call = c .before .before .before .before .before .before in
     let turn = call .before .before .before .before .before in
-    let start = turn .before .before .before .before .before .before .before .before .before in
     passing-next (turn .before .before .loop .inv) (turn .lowest .result) _ _
     (call .rule7-each .result)
-    (each-visited (start .args .v) (start .args .count) (start .args .words .now) (withWay (start .args .found .now) (start .args .a) (turn .lowest .result))
-    (withWay (start .args .found .now) (start .args .b) (turn .lowest .result)) _ _ _ _ (call .rule7-each .result) (call .before .before .before .before .with-way .ensures)
-    (call .before .before .before .with-way2 .ensures) (call .rule7-each .ensures)) (met turn .1) (c .without .ensures) (start .pre .2 .lines .0)
-    (λ i. steady-each _ _ _ (start .pre .2 .lines .0) _ _) (not-false _ (c .before .if1 .left))
+    (simp (call .before .before .before .before .with-way .ensures, call .before .before .before .with-way2 .ensures) at (call .rule7-each .ensures)) (met turn .1) (c .without .ensures) (λ i. steady-each _ _ _ _) (c .before .if1 .left)
 
 same-length-3 : tie.Need-same-length-3 Inv-loop μ-loop
 same-length-3 c = search needs
@@ -113,7 +104,7 @@ returns-2 : tie.Need-returns-2 Inv-loop μ-loop
 returns-2 c =
     let pre = c .before .before .before .before .before .before .before .before .pre in
     let p = c .before .loop .inv in
-    λ ks fill. (p .going .gone ks fill, by-ways (pre .2) (pre .3) (pre .4) (passing-end p (c .loop-test .left)))
+    λ ks fill. (p .going .gone ks fill, by-ways (pre .0 .listed) (pre .1) (pre .2) (passing-end p (c .loop-test .left)))
 
 pub rule7-by-ways-spec : {M : Type 1} → statement M
 rule7-by-ways-spec =

@@ -1,28 +1,28 @@
 -- `rule7_each` meets its contract: rule 7 is seen to of each line that is not left. The measure is the set of those left, as a number. Assumes nothing.
 use borrow.Author.Needs.{needs}
-use borrow.Author.Tests.{not-true, not-false}
 use Prim.Native.Nat.{_<_}
 use mathlib.Core.Path.{refl}
 use native.Mathlib.Omega.{arith}
 use lib.Dec.{T}
 use Rattle.rules.specs.Relations.{has}
+use Rattle.rules.specs.Closing.{rules7}
 use Rattle.bits.specs.Sets.{wordBits}
-use Rattle.kinds.specs.Sections.{Kinds}
-use Rattle.moves.proofs.Passing.{Passing, going-fit, passing-none, passing-least, passing-lost, passing-next, passing-end, passing-less}
-use Rattle.same_panels.specs.Visits.{Keeping, Beside}
+use Rattle.moves.specs.Visits.{Keeping}
+use Rattle.moves.proofs.Passing.{Passing, passing-none, passing-least, passing-lost, passing-next, passing-end, passing-less}
+use Rattle.same_panels.specs.Visits.{Beside}
 use Rattle.same_panels.proofs.Visiting.{steady-beside}
 use Rattle.same_panels.proofs.rule7_each.Statement.{statement}
 use Rattle.same_panels.proofs.rule7_each.Tie as tie
 
 abbrev Inv-loop : tie.InvT-loop
 Inv-loop v count words found lines others cells₀ marks₀ left₀ cells marks left =
-    Passing (Kinds v count words) (Keeping v) v (λ n. Beside v words n others) lines left cells₀ marks₀ cells marks
+    Passing (Keeping rules7 v) v count words found (λ n. Beside v words n others) lines left cells₀ marks₀ cells marks
 
 abbrev μ-loop : tie.MeasureT-loop
 μ-loop v count words found lines others cells₀ marks₀ left₀ cells marks left = left
 
 loop-holds : tie.Need-loop-holds Inv-loop μ-loop
-loop-holds c = let start = c .before .before .before .before in passing-none (start .pre .0) (start .pre .1) refl (omega arith)
+loop-holds c = passing-none (c .before .before .before .before .pre .0) refl (omega arith)
 
 lowest-requires : tie.Need-lowest-requires Inv-loop μ-loop
 lowest-requires c κs = search needs
@@ -33,14 +33,12 @@ module _ (c : tie.After-lowest Inv-loop μ-loop) where
   met = passing-least (c .before .before .loop .inv) (c .lowest .ensures) (c .before .loop-test .taken)
 
   below : c .lowest .result < c .before .before .before .before .before .before .before .args .count
-  below = c .before .before .before .before .before .before .before .pre .3 (c .lowest .result) (c .before .before .loop .inv .among (c .lowest .result) (met .1))
+  below = c .before .before .before .before .before .before .before .pre .1 (c .lowest .result) (c .before .before .loop .inv .among (c .lowest .result) (met .1))
 
 rule7-beside-requires : tie.Need-rule7-beside-requires Inv-loop μ-loop
 rule7-beside-requires c κs =
     let turn = c .before .before in
-    let start = turn .before .before .before .before .before .before .before in
-    let fit = going-fit (start .pre .2 .lines .0) (turn .before .before .loop .inv .going) in
-    (fit .0, fit .1, start .pre .2, below turn, search needs)
+    (turn .before .before .loop .inv .going .site, below turn, search needs)
 
 same-length : tie.Need-same-length Inv-loop μ-loop
 same-length c = search needs
@@ -52,9 +50,8 @@ returns : tie.Need-returns Inv-loop μ-loop
 returns c =
     let call = c .before .before .before .before .before in
     let turn = call .before .before .before in
-    let start = turn .before .before .before .before .before .before .before in
     passing-lost (turn .before .before .loop .inv) (turn .lowest .result) _ _
-    (call .rule7-beside .result) (call .rule7-beside .ensures) (not-true _ (c .if1 .taken))
+    (call .rule7-beside .result) (call .rule7-beside .ensures) (c .if1 .taken)
 
 without-requires : tie.Need-without-requires Inv-loop μ-loop
 without-requires c κs = met (c .before .before .before .before .before .before .before .before)
@@ -66,10 +63,8 @@ loop-again : tie.Need-loop-again Inv-loop μ-loop
 loop-again c =
     let call = c .before .before .before .before .before .before in
     let turn = call .before .before .before in
-    let start = turn .before .before .before .before .before .before .before in
     passing-next (turn .before .before .loop .inv) (turn .lowest .result) _ _
-    (call .rule7-beside .result) (call .rule7-beside .ensures) (met turn .1) (c .without .ensures) (start .pre .2 .lines .0)
-    (λ n. steady-beside _ _ _ (start .pre .2 .lines .0) n _) (not-false _ (c .before .if1 .left))
+    (call .rule7-beside .result) (call .rule7-beside .ensures) (met turn .1) (c .without .ensures) (λ n. steady-beside _ _ _ _) (c .before .if1 .left)
 
 same-length-3 : tie.Need-same-length-3 Inv-loop μ-loop
 same-length-3 c = search needs

@@ -1,29 +1,24 @@
 -- `rule7_for` meets its contract: whether the two boards may be the same, and must be, says which lines need a visit. Assumes nothing.
 use borrow.Author.Needs.{needs}
-use mathlib.Core.Path.{_≡_, sym, _∙_, subst}
+use mathlib.Core.Path.{_≡_, _∙_}
 use native.Mathlib.Omega.{arith}
-use lib.ListN.{getD}
 use Rattle.rules.specs.Relations.{same}
 use Rattle.rules.proofs.Sets.{single-small, shared-has}
 use Rattle.rules.proofs.Rules.{same-small}
 use Rattle.passes.proofs.Passes.{place-few, ready-place}
-use Rattle.same_panels.specs.Visits.{Listed, Numbers}
-use Rattle.same_panels.proofs.Finding.{each-visited, panel-numbers, visit-open, visit-panels, visit-ways}
+use Rattle.by_board.proofs.Asking.{found-numbers}
+use Rattle.same_panels.proofs.Finding.{visit-open, visit-panels, visit-ways}
 use Rattle.same_panels.proofs.rule7_for.Statement.{statement}
 use Rattle.same_panels.proofs.rule7_for.Tie as tie
 
-module _ (start : tie.Start) where
-  listed : Listed (start .args .v) (start .args .count) (start .args .words .now) (start .args .found .now)
-  listed = record { lines = start .pre .2; few = start .pre .3; told = start .pre .4 }
-
 mul-k : tie.Need-mul-k
-mul-k c = let pre = c .before .before .before .before .pre in omega (arith, place-few (pre .0 .ready .boards) (pre .5) (pre .6))
+mul-k c = let pre = c .before .before .before .before .pre in omega (arith, place-few (pre .0 .table .ready .boards) (pre .1) (pre .2))
 
 add-k : tie.Need-add-k
-add-k c = let pre = c .before .before .before .before .pre in omega (arith, place-few (pre .0 .ready .boards) (pre .5) (pre .6))
+add-k c = let pre = c .before .before .before .before .pre in omega (arith, place-few (pre .0 .table .ready .boards) (pre .1) (pre .2))
 
 slice-read-x : tie.Need-slice-read-x
-slice-read-x c = let pre = c .before .before .before .before .before .pre in ready-place (pre .0 .ready) (pre .5) (pre .6)
+slice-read-x c = let pre = c .before .before .before .before .before .pre in ready-place (pre .0 .table .ready) (pre .1) (pre .2)
 
 with-panel-requires : tie.Need-with-panel-requires
 with-panel-requires c κs = search needs
@@ -33,14 +28,10 @@ with-panel-requires-2 c κs = search needs
 
 rule7-each-requires : tie.Need-rule7-each-requires
 rule7-each-requires c κs =
-    let start = c .before .before .before .before .before .before .before .before .before .before in
-    let first : Numbers (start .args .count) (c .before .before .before .with-panel .result) =
-    subst (Numbers (start .args .count)) (sym (c .before .before .before .with-panel .ensures))
-    (panel-numbers (listed start) (omega (arith, start .pre .0 .ready .boards, start .pre .5))) in
-    let second : Numbers (start .args .count) (c .before .before .with-panel2 .result) =
-    subst (Numbers (start .args .count)) (sym (c .before .before .with-panel2 .ensures))
-    (panel-numbers (listed start) (omega (arith, start .pre .0 .ready .boards, start .pre .6))) in
-    (start .pre .0, start .pre .1, listed start, search needs, search needs)
+    let pre = c .before .before .before .before .before .before .before .before .before .before .pre in
+    let first = found-numbers (pre .0 .listed) _ (c .before .before .before .with-panel .ensures) (omega (arith, pre .0 .table .ready .boards, pre .1)) in
+    let second = found-numbers (pre .0 .listed) _ (c .before .before .with-panel2 .ensures) (omega (arith, pre .0 .table .ready .boards, pre .2)) in
+    (pre .0, search needs, search needs)
 
 same-length : tie.Need-same-length
 same-length c = search needs
@@ -51,22 +42,18 @@ same-length-2 c = search needs
 returns : tie.Need-returns
 returns c =
     let call = c .before .before .before .before in
-    let start = call .before .before .before .before .before .before .before .before .before .before .before in
-    let (table, marks, agreed, few, told, ha, hb, parted) = start .pre in
-    visit-panels (listed start) table marks ha hb parted _ _ (call .rule7-each .result) (call .before .before .before .before .before .if1 .taken)
-    (each-visited (start .args .v) (start .args .count) (start .args .words .now) (getD (start .args .found .now) (start .args .a) 0)
-    (getD (start .args .found .now) (start .args .b) 0) _ _ _ _ (call .rule7-each .result) (call .before .before .before .before .with-panel .ensures)
-    (call .before .before .before .with-panel2 .ensures) (call .rule7-each .ensures))
+    let pre = call .before .before .before .before .before .before .before .before .before .before .before .pre in
+    visit-panels (pre .0) (pre .1) (pre .2) (pre .3) _ _ (call .rule7-each .result) (call .before .before .before .before .before .if1 .taken)
+    (simp (call .before .before .before .before .with-panel .ensures, call .before .before .before .with-panel2 .ensures) at (call .rule7-each .ensures))
 
 meet-requires : tie.Need-meet-requires
-meet-requires c κs = (c .before .before .before .before .before .before .pre .0 .ready .table .small _, single-small same-small)
+meet-requires c κs = (c .before .before .before .before .before .before .pre .0 .table .ready .table .small _, single-small same-small)
 
 returns-2 : tie.Need-returns-2
 returns-2 c =
-    let start = c .before .before .before .before .before .before .before .before in
-    let (table, marks, agreed, few, told, ha, hb, parted) = start .pre in
+    let pre = c .before .before .before .before .before .before .before .before .pre in
     let may : c .before .meet .result ≡ 0 → ⊥ = c .if2 .taken in
-    visit-open (listed start) table marks ha hb parted (shared-has same _ (λ e. may (c .before .meet .ensures ∙ e))) (c .before .before .if1 .left)
+    visit-open (pre .0) (pre .1) (pre .2) (pre .3) (shared-has same _ (λ e. may (c .before .meet .ensures ∙ e))) (c .before .before .if1 .left)
 
 rule7-by-ways-requires : tie.Need-rule7-by-ways-requires
 rule7-by-ways-requires c κs = search needs
@@ -80,9 +67,8 @@ same-length-4 c = search needs
 returns-3 : tie.Need-returns-3
 returns-3 c =
     let call = c .before .before .before .before in
-    let start = call .before .before .before .before .before .before .before .before .before .before .before in
-    let (table, marks, agreed, few, told, ha, hb, parted) = start .pre in
-    visit-ways (listed start) table marks ha hb parted _ _ (call .rule7-by-ways .result) (call .before .before .before .before .before .if1 .left) (call .rule7-by-ways .ensures)
+    let pre = call .before .before .before .before .before .before .before .before .before .before .before .pre in
+    visit-ways (pre .0) (pre .1) (pre .2) (pre .3) _ _ (call .rule7-by-ways .result) (call .before .before .before .before .before .if1 .left) (call .rule7-by-ways .ensures)
 
 pub rule7-for-spec : {M : Type 1} → statement M
 rule7-for-spec =

@@ -2,6 +2,7 @@
 use borrow.Author.Needs.{needs}
 use Rattle.rules.proofs.Tests.{unequal}
 use Rattle.moves.proofs.Moving.{moved-none}
+use Rattle.moves.proofs.Passing.{went-so}
 use Rattle.same_panels.proofs.Visiting.{unlisted-none, unlisted-two}
 use Rattle.same_panels.proofs.rule7_unlisted.Statement.{statement}
 use Rattle.same_panels.proofs.rule7_unlisted.Tie as tie
@@ -19,7 +20,9 @@ same-length-2 : tie.Need-same-length-2
 same-length-2 c = search needs
 
 returns-2 : tie.Need-returns-2
-returns-2 c = unlisted-two _ _ _ _ _ _ _ _ (c .before .before .before .before .rule7 .result) (c .before .before .before .before .rule7 .ensures)
+returns-2 c =
+    let call = c .before .before .before .before in
+    went-so _ _ _ _ _ _ _ _ (call .rule7 .result) (λ moved. unlisted-two) (call .rule7 .ensures)
 
 pub rule7-unlisted-spec : {M : Type 1} → statement M
 rule7-unlisted-spec = tie.close (tie.spec returns rule7-requires same-length same-length-2 returns-2)

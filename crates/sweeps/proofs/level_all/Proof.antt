@@ -6,10 +6,10 @@ use Prim.Native.Nat.{ℕ, _+_, _-_, _≤_, _<_}
 use native.Mathlib.Omega.{arith}
 use borrow.Author.Count.{below-none, below-more}
 use borrow.Author.Needs.{needs}
+use borrow.Author.Tests.{not-true, not-false}
 use Rattle.rules.specs.Tables.{cell}
 use Rattle.rules.proofs.Tests.{below-suc}
 use Rattle.passes.proofs.Passes.{place-few, ready-place}
-use Rattle.moves.proofs.Striking.{not-so, not-not-so}
 use Rattle.sweeps.specs.Sweeps.{Sides, Levels}
 use Rattle.sweeps.proofs.Leveling.{sides-none, sides-then, sides-as, sides-lost, sides-noted, diagonal-lost}
 use Rattle.sweeps.proofs.level_all.Statement.{statement}
@@ -60,7 +60,7 @@ same-length-4 c = c .before .before .before .before .before .level-row .kept .1 
 
 returns-2 : tie.Need-returns-2 Inv-loop μ-loop
 returns-2 c =
-    sides-lost (c .before .before .before .before .before .before .before .before .before .before .before .loop .inv .1) (subst (Levels _ _ _ _ _ _) (not-so (c .before .before .before .before .before .level-row .result) (c .if2 .taken)) (c .before .before .before .before .before .level-row .ensures))
+    sides-lost (c .before .before .before .before .before .before .before .before .before .before .before .loop .inv .1) (subst (Levels _ _ _ _ _ _) (not-true (c .before .before .before .before .before .level-row .result) (c .if2 .taken)) (c .before .before .before .before .before .level-row .ensures))
 
 add-p : tie.Need-add-p Inv-loop μ-loop
 add-p c = search needs
@@ -73,7 +73,7 @@ loop-again c =
     let inv = c .before .before .before .before .before .before .before .before .before .before .before .loop .inv in (
       omega arith,
       sides-as (λ a b h hb e. later a e)
-          (sides-then (inv .1) (subst (Levels _ _ _ _ _ _) (not-not-so (c .before .before .before .before .before .level-row .result) (c .if2 .left)) (c .before .before .before .before .before .level-row .ensures))),
+          (sides-then (inv .1) (subst (Levels _ _ _ _ _ _) (not-false (c .before .before .before .before .before .level-row .result) (c .if2 .left)) (c .before .before .before .before .before .level-row .ensures))),
       below-more _ _ (inv .2) (λ z. c .before .before .before .before .before .before .before .before .if1 .left (inv .1 .diagonal _ (c .before .before .before .before .before .before .before .before .before .before .loop-test .taken) ∙ z)),
     )
   where

@@ -4,8 +4,8 @@ use mathlib.Core.Logic.{⊎-elim, _⊎_, inl, inr}
 use Prim.Native.Nat.{ℕ, _+_, _-_, _≤_, _<_}
 use native.Mathlib.Omega.{arith}
 use borrow.Author.Needs.{needs}
+use borrow.Author.Tests.{not-true, not-false}
 use Rattle.rules.proofs.Tests.{below-suc}
-use Rattle.moves.proofs.Striking.{not-so, not-not-so}
 use Rattle.sweeps.specs.Sweeps.{Level, Sides}
 use Rattle.sweeps.proofs.Leveling.{level-lost, level-sides, sides-none, sides-then, sides-as, sides-lost}
 use Rattle.sweeps.proofs.level_row.Statement.{statement}
@@ -41,7 +41,7 @@ returns c =
     let inv = c .before .before .before .before .before .before .before .before .before .loop .inv in
     sides-lost (inv .2)
     (level-lost _ _ _ _ (record { boards = c .before .before .before .before .before .before .before .before .before .before .before .before .pre .0 .boards; table = inv .2 .table }) (inv .0) (c .before .before .before .before .before .before .before .before .loop-test .taken) (inv .2 .list)
-    (subst (Level _ _ _ _ _ _ _) (not-so (c .before .before .before .before .before .level .result) (c .if1 .taken)) (c .before .before .before .before .before .level .ensures)))
+    (subst (Level _ _ _ _ _ _ _) (not-true (c .before .before .before .before .before .level .result) (c .if1 .taken)) (c .before .before .before .before .before .level .ensures)))
 
 add-q-2 : tie.Need-add-q-2 Inv-loop μ-loop
 add-q-2 c = search needs
@@ -57,7 +57,7 @@ loop-again c =
       sides-as (λ a b h hb e. later a b e)
           (sides-then (inv .2)
           (level-sides _ _ _ _ (record { boards = c .before .before .before .before .before .before .before .before .before .before .before .before .pre .0 .boards; table = inv .2 .table }) (inv .0) (c .before .before .before .before .before .before .before .before .loop-test .taken) (inv .2 .list)
-          (subst (Level _ _ _ _ _ _ _) (not-not-so (c .before .before .before .before .before .level .result) (c .if1 .left)) (c .before .before .before .before .before .level .ensures)))),
+          (subst (Level _ _ _ _ _ _ _) (not-false (c .before .before .before .before .before .level .result) (c .if1 .left)) (c .before .before .before .before .before .level .ensures)))),
     )
   where
     later : {p q : ℕ} (a b : ℕ) → (a ≡ p) × (b < q + 1) → ((a ≡ p) × (b < q)) ⊎ ((a ≡ p) × (b ≡ q))

@@ -4,12 +4,12 @@ use Prim.Native.Nat.{ℕ, _-_, _≤_, _<_}
 use native.Mathlib.Omega.{arith}
 use borrow.Author.Count.{below-none}
 use borrow.Author.Needs.{needs}
+use borrow.Author.Tests.{not-true, not-false}
 use Rattle.rules.specs.Relations.{setLimit}
 use Rattle.rules.proofs.Composition.{compose-small}
 use Rattle.passes.proofs.Passes.{place-few, ready-place}
 use Rattle.moves.specs.Watches.{through}
 use Rattle.moves.specs.Moves.{Struck, Moved, Tended}
-use Rattle.moves.proofs.Striking.{not-so, not-not-so}
 use Rattle.moves.proofs.Moving.{moved-none, moved-then, tended-moved}
 use Rattle.moves.proofs.Reading.{through-honest}
 use Rattle.sweeps.specs.Sweeps.{Evenly}
@@ -74,7 +74,7 @@ same-length-2 c = c .before .before .before .before .before .strike .kept .1 .1 
 returns : tie.Need-returns Inv-loop μ-loop
 returns c =
     let pre = c .before .before .before .before .before .before .before .before .before .before .before .before .before .before .before .before .pre in
-    through-lost (pre .3) (pre .4) (c .before .before .before .before .before .before .before .before .before .before .loop-test .taken) refl (c .before .before .before .before .before .before .before .before .compose .ensures) (c .before .before .before .before .before .before .before .before .before .before .before .loop .inv .1) (subst (Struck _ _ _ _ _ _ _ _) (not-so (c .before .before .before .before .before .strike .result) (c .if1 .taken)) (c .before .before .before .before .before .strike .ensures))
+    through-lost (pre .3) (pre .4) (c .before .before .before .before .before .before .before .before .before .before .loop-test .taken) refl (c .before .before .before .before .before .before .before .before .compose .ensures) (c .before .before .before .before .before .before .before .before .before .before .before .loop .inv .1) (subst (Struck _ _ _ _ _ _ _ _) (not-true (c .before .before .before .before .before .strike .result) (c .if1 .taken)) (c .before .before .before .before .before .strike .ensures))
 
 mul-j : tie.Need-mul-j Inv-loop μ-loop
 mul-j c = let pre = c .before .before .before .before .before .before .before .before .before .before .before .before .before .before .before .before .pre in omega (arith, place-few (pre .1 .ready .boards) (pre .3) (c .before .before .before .before .before .before .before .before .before .before .loop-test .taken))
@@ -85,17 +85,17 @@ add-j c = let pre = c .before .before .before .before .before .before .before .b
 slice-read-compose-2 : tie.Need-slice-read-compose-2 Inv-loop μ-loop
 slice-read-compose-2 c =
     let pre = c .before .before .before .before .before .before .before .before .before .before .before .before .before .before .before .before .before .pre in
-    ready-place (through-went (pre .3) (pre .4) (c .before .before .before .before .before .before .before .before .before .before .before .loop-test .taken) refl (c .before .before .before .before .before .before .before .before .before .compose .ensures) (c .before .before .before .before .before .before .before .before .before .before .before .before .loop .inv .1) (subst (Struck _ _ _ _ _ _ _ _) (not-not-so (c .before .before .before .before .before .before .strike .result) (c .before .if1 .left)) (c .before .before .before .before .before .before .strike .ensures)) .fit .ready) (pre .3) (c .before .before .before .before .before .before .before .before .before .before .before .loop-test .taken)
+    ready-place (through-went (pre .3) (pre .4) (c .before .before .before .before .before .before .before .before .before .before .before .loop-test .taken) refl (c .before .before .before .before .before .before .before .before .before .compose .ensures) (c .before .before .before .before .before .before .before .before .before .before .before .before .loop .inv .1) (subst (Struck _ _ _ _ _ _ _ _) (not-false (c .before .before .before .before .before .before .strike .result) (c .before .if1 .left)) (c .before .before .before .before .before .before .strike .ensures)) .fit .ready) (pre .3) (c .before .before .before .before .before .before .before .before .before .before .before .loop-test .taken)
 
 compose-requires-2 : tie.Need-compose-requires-2 Inv-loop μ-loop
 compose-requires-2 c κs =
     let pre = c .before .before .before .before .before .before .before .before .before .before .before .before .before .before .before .before .before .pre in
-    (pre .0, pre .1 .ready .table .small _, through-went (pre .3) (pre .4) (c .before .before .before .before .before .before .before .before .before .before .before .loop-test .taken) refl (c .before .before .before .before .before .before .before .before .before .compose .ensures) (c .before .before .before .before .before .before .before .before .before .before .before .before .loop .inv .1) (subst (Struck _ _ _ _ _ _ _ _) (not-not-so (c .before .before .before .before .before .before .strike .result) (c .before .if1 .left)) (c .before .before .before .before .before .before .strike .ensures)) .fit .ready .table .small _)
+    (pre .0, pre .1 .ready .table .small _, through-went (pre .3) (pre .4) (c .before .before .before .before .before .before .before .before .before .before .before .loop-test .taken) refl (c .before .before .before .before .before .before .before .before .before .compose .ensures) (c .before .before .before .before .before .before .before .before .before .before .before .before .loop .inv .1) (subst (Struck _ _ _ _ _ _ _ _) (not-false (c .before .before .before .before .before .before .strike .result) (c .before .if1 .left)) (c .before .before .before .before .before .before .strike .ensures)) .fit .ready .table .small _)
 
 strike-requires-2 : tie.Need-strike-requires-2 Inv-loop μ-loop
 strike-requires-2 c κs =
     let pre = c .before .before .before .before .before .before .before .before .before .before .before .before .before .before .before .before .before .before .before .before .pre in
-    let went = through-went (pre .3) (pre .4) (c .before .before .before .before .before .before .before .before .before .before .before .before .before .before .loop-test .taken) refl (c .before .before .before .before .before .before .before .before .before .before .before .before .compose .ensures) (c .before .before .before .before .before .before .before .before .before .before .before .before .before .before .before .loop .inv .1) (subst (Struck _ _ _ _ _ _ _ _) (not-not-so (c .before .before .before .before .before .before .before .before .before .strike .result) (c .before .before .before .before .if1 .left)) (c .before .before .before .before .before .before .before .before .before .strike .ensures)) in
+    let went = through-went (pre .3) (pre .4) (c .before .before .before .before .before .before .before .before .before .before .before .before .before .before .loop-test .taken) refl (c .before .before .before .before .before .before .before .before .before .before .before .before .compose .ensures) (c .before .before .before .before .before .before .before .before .before .before .before .before .before .before .before .loop .inv .1) (subst (Struck _ _ _ _ _ _ _ _) (not-false (c .before .before .before .before .before .before .before .before .before .strike .result) (c .before .before .before .before .if1 .left)) (c .before .before .before .before .before .before .before .before .before .strike .ensures)) in
     (went .fit, went .list, pre .4, c .before .before .before .before .before .before .before .before .before .before .before .before .before .before .loop-test .taken, subst (λ (x : ℕ). x < setLimit) (sym (c .before .before .compose2 .ensures)) (compose-small _ _))
 
 same-length-3 : tie.Need-same-length-3 Inv-loop μ-loop
@@ -108,9 +108,9 @@ same-length-4 c =
 returns-2 : tie.Need-returns-2 Inv-loop μ-loop
 returns-2 c =
     let pre = c .before .before .before .before .before .before .before .before .before .before .before .before .before .before .before .before .before .before .before .before .before .before .before .before .before .before .pre in
-    let went = through-went (pre .3) (pre .4) (c .before .before .before .before .before .before .before .before .before .before .before .before .before .before .before .before .before .before .before .before .loop-test .taken) refl (c .before .before .before .before .before .before .before .before .before .before .before .before .before .before .before .before .before .before .compose .ensures) (c .before .before .before .before .before .before .before .before .before .before .before .before .before .before .before .before .before .before .before .before .before .loop .inv .1) (subst (Struck _ _ _ _ _ _ _ _) (not-not-so (c .before .before .before .before .before .before .before .before .before .before .before .before .before .before .before .strike .result) (c .before .before .before .before .before .before .before .before .before .before .if1 .left)) (c .before .before .before .before .before .before .before .before .before .before .before .before .before .before .before .strike .ensures)) in
+    let went = through-went (pre .3) (pre .4) (c .before .before .before .before .before .before .before .before .before .before .before .before .before .before .before .before .before .before .before .before .loop-test .taken) refl (c .before .before .before .before .before .before .before .before .before .before .before .before .before .before .before .before .before .before .compose .ensures) (c .before .before .before .before .before .before .before .before .before .before .before .before .before .before .before .before .before .before .before .before .before .loop .inv .1) (subst (Struck _ _ _ _ _ _ _ _) (not-false (c .before .before .before .before .before .before .before .before .before .before .before .before .before .before .before .strike .result) (c .before .before .before .before .before .before .before .before .before .before .if1 .left)) (c .before .before .before .before .before .before .before .before .before .before .before .before .before .before .before .strike .ensures)) in
     through-lost (pre .4) (pre .3) (c .before .before .before .before .before .before .before .before .before .before .before .before .before .before .before .before .before .before .before .before .loop-test .taken) refl (c .before .before .before .before .before .before .before .before .compose2 .ensures) (moved-then (c .before .before .before .before .before .before .before .before .before .before .before .before .before .before .before .before .before .before .before .before .before .loop .inv .1) went)
-    (subst (Struck _ _ _ _ _ _ _ _) (not-so (c .before .before .before .before .before .strike2 .result) (c .if2 .taken)) (c .before .before .before .before .before .strike2 .ensures))
+    (subst (Struck _ _ _ _ _ _ _ _) (not-true (c .before .before .before .before .before .strike2 .result) (c .if2 .taken)) (c .before .before .before .before .before .strike2 .ensures))
 
 add-r : tie.Need-add-r Inv-loop μ-loop
 add-r c = search needs
@@ -125,9 +125,9 @@ loop-again c =
     let v = c .before .before .before .before .before .before .before .before .before .before .before .before .before .before .before .before .before .before .before .before .before .before .before .before .before .before .args .v in
     let p = c .before .before .before .before .before .before .before .before .before .before .before .before .before .before .before .before .before .before .before .before .before .before .before .before .before .before .args .p in
     let q = c .before .before .before .before .before .before .before .before .before .before .before .before .before .before .before .before .before .before .before .before .before .before .before .before .before .before .args .q in
-    let went = through-went (pre .3) (pre .4) (c .before .before .before .before .before .before .before .before .before .before .before .before .before .before .before .before .before .before .before .before .loop-test .taken) refl (c .before .before .before .before .before .before .before .before .before .before .before .before .before .before .before .before .before .before .compose .ensures) (c .before .before .before .before .before .before .before .before .before .before .before .before .before .before .before .before .before .before .before .before .before .loop .inv .1) (subst (Struck _ _ _ _ _ _ _ _) (not-not-so (c .before .before .before .before .before .before .before .before .before .before .before .before .before .before .before .strike .result) (c .before .before .before .before .before .before .before .before .before .before .if1 .left)) (c .before .before .before .before .before .before .before .before .before .before .before .before .before .before .before .strike .ensures)) in
-    let turn = through-turn (pre .3) (pre .4) (c .before .before .before .before .before .before .before .before .before .before .before .before .before .before .before .before .before .before .before .before .loop-test .taken) refl (c .before .before .before .before .before .before .before .before .before .before .before .before .before .before .before .before .before .before .compose .ensures) (c .before .before .before .before .before .before .before .before .before .before .before .before .before .before .before .before .before .before .before .before .before .loop .inv .1) (subst (Struck _ _ _ _ _ _ _ _) (not-not-so (c .before .before .before .before .before .before .before .before .before .before .before .before .before .before .before .strike .result) (c .before .before .before .before .before .before .before .before .before .before .if1 .left)) (c .before .before .before .before .before .before .before .before .before .before .before .before .before .before .before .strike .ensures)) (inv .2) in
-    let second = subst (Struck _ _ _ _ _ _ _ _) (not-not-so (c .before .before .before .before .before .strike2 .result) (c .if2 .left)) (c .before .before .before .before .before .strike2 .ensures) in
+    let went = through-went (pre .3) (pre .4) (c .before .before .before .before .before .before .before .before .before .before .before .before .before .before .before .before .before .before .before .before .loop-test .taken) refl (c .before .before .before .before .before .before .before .before .before .before .before .before .before .before .before .before .before .before .compose .ensures) (c .before .before .before .before .before .before .before .before .before .before .before .before .before .before .before .before .before .before .before .before .before .loop .inv .1) (subst (Struck _ _ _ _ _ _ _ _) (not-false (c .before .before .before .before .before .before .before .before .before .before .before .before .before .before .before .strike .result) (c .before .before .before .before .before .before .before .before .before .before .if1 .left)) (c .before .before .before .before .before .before .before .before .before .before .before .before .before .before .before .strike .ensures)) in
+    let turn = through-turn (pre .3) (pre .4) (c .before .before .before .before .before .before .before .before .before .before .before .before .before .before .before .before .before .before .before .before .loop-test .taken) refl (c .before .before .before .before .before .before .before .before .before .before .before .before .before .before .before .before .before .before .compose .ensures) (c .before .before .before .before .before .before .before .before .before .before .before .before .before .before .before .before .before .before .before .before .before .loop .inv .1) (subst (Struck _ _ _ _ _ _ _ _) (not-false (c .before .before .before .before .before .before .before .before .before .before .before .before .before .before .before .strike .result) (c .before .before .before .before .before .before .before .before .before .before .if1 .left)) (c .before .before .before .before .before .before .before .before .before .before .before .before .before .before .before .strike .ensures)) (inv .2) in
+    let second = subst (Struck _ _ _ _ _ _ _ _) (not-false (c .before .before .before .before .before .strike2 .result) (c .if2 .left)) (c .before .before .before .before .before .strike2 .ensures) in
     let again = through-went (pre .4) (pre .3) (c .before .before .before .before .before .before .before .before .before .before .before .before .before .before .before .before .before .before .before .before .loop-test .taken) refl (c .before .before .before .before .before .before .before .before .compose2 .ensures) (turn .0) second in
     let other =
     through-turn (pre .4) (pre .3) (c .before .before .before .before .before .before .before .before .before .before .before .before .before .before .before .before .before .before .before .before .loop-test .taken) refl (c .before .before .before .before .before .before .before .before .compose2 .ensures) (turn .0) second

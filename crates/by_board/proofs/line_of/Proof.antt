@@ -1,9 +1,9 @@
 -- `line_of` meets its contract: the index tells where the line begins. Assumes nothing.
-use borrow.Author.Needs.{needs}
 use mathlib.Core.Path.{ap, _∙_}
+use borrow.Author.Needs.{needs}
 use Rattle.kinds.specs.Lines.{kindAt}
-use Rattle.same_panels.proofs.line_of.Statement.{statement}
-use Rattle.same_panels.proofs.line_of.Tie as tie
+use Rattle.by_board.proofs.line_of.Statement.{statement}
+use Rattle.by_board.proofs.line_of.Tie as tie
 
 line-start-requires : tie.Need-line-start-requires
 line-start-requires c κs = search needs

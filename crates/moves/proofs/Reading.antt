@@ -56,7 +56,7 @@ matches′-honest v k l i t u f = ap (λ (x : ℕ). unless (not (within x E)) E)
 abbrev pub Told : Type 0 → Type 0
 Told X = X ⊎ (X → ⊥)
 
-is-told : (p q a b : ℕ) → Told (Is p q a b)
+pub is-told : (p q a b : ℕ) → Told (Is p q a b)
 is-told p q a b =
     ⊎-elim
     (λ d. ⊎-elim (λ e. inl (eqb→eq a p d, eqb→eq b q e)) (λ n. inr (λ r. T-differ n (r .1))) (T-decide (eqb b q)))

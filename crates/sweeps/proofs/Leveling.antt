@@ -1,7 +1,7 @@
 -- Rule 2 of two boards, of a board and those after it, and of all: one pair after the other, and what is left. Assumes nothing.
 use mathlib.Core.Path.{_≡_, refl, sym, ap, _∙_, subst}
 use mathlib.Core.Bool.{Bool, true, false}
-use mathlib.Core.Logic.{⊎-elim, _⊎_, inl, inr}
+use mathlib.Core.Logic.{⊎-elim, _⊎_}
 use mathlib.Core.List.{List}
 use Prim.Native.Nat.{ℕ, _+_, _*_, _<_}
 use native.Mathlib.Omega.{arith}
@@ -10,7 +10,7 @@ use lib.ListN.{length, getD}
 use Rattle.rules.specs.Relations.{relations, E, same, has, setTo, setOf, full, setLimit, _liesWithin_, converse}
 use Rattle.rules.specs.Tables.{cell, Inside, emptied}
 use Rattle.rules.specs.Closing.{rules2}
-use Rattle.rules.proofs.Tests.{order-cases, T-decide, T-differ}
+use Rattle.rules.proofs.Tests.{order-cases}
 use Rattle.rules.proofs.Digits.{has-zero, has-single}
 use Rattle.rules.proofs.Sets.{setOf-small, lies-trans, lies-antisym, lies-full, lies-one, meet-left, meet-right, meet-largest}
 use Rattle.rules.proofs.Composition.{converse-small, converse-mono, converse-converse, converse-zero}
@@ -19,6 +19,7 @@ use Rattle.rules.proofs.Inside.{each-place, inside-refl, inside-trans, emptied-
 use Rattle.passes.specs.Passes.{Filled, Idles, Ready}
 use Rattle.moves.specs.Moves.{Marks, Off, Mirrored, writtenBoth, noted, Lost}
 use Rattle.moves.proofs.Striking.{equal-true, within-none, written-here, written-there, put-idle, put-some, put-lost}
+use Rattle.moves.proofs.Reading.{is-told}
 use Rattle.moves.proofs.Passing.{turned}
 use Rattle.moves.proofs.Moving.{place-one, turned-E, both-inside, both-table, both-keeps, both-other, noted-list, noted-off, noted-here, off-mirror, off-both}
 use Rattle.sweeps.specs.Sweeps.{Selves, allowed, Level, Sided, Sides, Noted}
@@ -118,13 +119,10 @@ module _ (v p q : ℕ) (t : List ℕ) (r : Ready v t) (less : p < q) (hq : q < v
               keeps = λ x d i. both-keeps v p q bound t x (within x d i) (turned v x d p q hp hq) i;
               list = list;
               diagonal = λ a ha. both-other v p q bound t (v * a + a) (λ e. let (f, g) = place-one v a a p q ha hq e in let z : ⊥ = omega arith in z) (λ e. let (f, g) = place-one v a a q p ha hp e in let z : ⊥ = omega arith in z);
-              others = λ a b h hb f. ⊎-elim (λ d. this d) (λ d. let (c, c′) = beside a b h hb d in record { turned = c′ ∙ f .turned ∙ ap converse (sym c); some = λ z. f .some (sym c ∙ z); known = λ o. c ∙ f .known (off a b o) }) (is-told a b);
+              others = λ a b h hb f. ⊎-elim (λ d. this d) (λ d. let (c, c′) = beside a b h hb d in record { turned = c′ ∙ f .turned ∙ ap converse (sym c); some = λ z. f .some (sym c ∙ z); known = λ o. c ∙ f .known (off a b o) }) (is-told p q a b);
               these = λ a b h hb d. this d;
             }
           where
-            is-told : (a b : ℕ) → ((a ≡ p) × (b ≡ q)) ⊎ ((a ≡ p) × (b ≡ q) → ⊥)
-            is-told a b = ⊎-elim (λ d. ⊎-elim (λ e. inl (eqb→eq a p d, eqb→eq b q e)) (λ n. inr (λ r. T-differ n (r .1))) (T-decide (eqb b q))) (λ n. inr (λ r. T-differ n (r .0))) (T-decide (eqb a p))
-
             this : {a b : ℕ} → (a ≡ p) × (b ≡ q) → Sided v (noted z m p q) after a b
             this {a} {b} d =
                 subst (λ (x : ℕ). Sided v (noted z m p q) after x b) (sym (d .0))

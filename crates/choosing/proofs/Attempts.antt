@@ -4,6 +4,7 @@ use mathlib.Core.Bool.{Bool, true, not}
 use mathlib.Core.List.{List}
 use Prim.Native.Nat.{ℕ, _+_, _*_, _^_, _≤_, _<_}
 use native.Mathlib.Omega.{arith}
+use borrow.Author.Tests.{ne-eqb}
 use lib.Dec.{T}
 use lib.ListN.{length, getD, set, replicate}
 use lib.Seq.{getD-set-same}
@@ -20,7 +21,6 @@ use Rattle.rules.proofs.Largest.{closing-largest, largest-unique}
 use Rattle.passes.specs.Passes.{Ready}
 use Rattle.orders.specs.Orders.{pick}
 use Rattle.moves.specs.Moves.{Marks, Mutual, Struck, Moved}
-use Rattle.moves.proofs.Striking.{unequal-false}
 use Rattle.moves.proofs.Moving.{strike-moved, strike-within, moved-as}
 use Rattle.rounds.proofs.Owing.{owed-moved}
 use Rattle.rounds.proofs.Draining.{empty-list}
@@ -111,7 +111,7 @@ module _ (s : Sheet) {ord : List ℕ} (order : Order ord) (first : List ℕ) {v 
             let e : x ≡ 2 ^ c .r = picks ∙ c .picks in
             r .told
             ∙ ap not
-            (unequal-false
+            (ne-eqb _ _
             (shared (cell v u (at .p) (at .q)) x (c .r) (c .small) (subst (λ (j : ℕ). T (has (getD u j 0) (c .r))) (sym cell-place) (c .member))
             (subst (λ (z : ℕ). T (has z (c .r))) (sym e) (has-single (c .r)))))
 

@@ -6,6 +6,7 @@ use mathlib.Core.List.{List, [], _∷_}
 use Prim.Native.Nat.{ℕ, zero, suc, _+_, _*_, _^_, _≤_, _<_}
 use native.Mathlib.Nat.{mul-le-mul-left, mul-suc, not-suc-le-zero, le-of-suc-le-suc}
 use native.Mathlib.Omega.{arith}
+use borrow.Author.Tests.{eq-eqb}
 use lib.Dec.{T, eqb, eqb→eq, eqb-refl, not-T, T-not}
 use lib.Count.{ones}
 use lib.ListN.{length, getD, set, length-set}
@@ -24,7 +25,7 @@ use Rattle.bits.specs.Sets.{added, addedAt}
 use Rattle.bits.proofs.Laws.{has-added, added-small, ones-added}
 use Rattle.moves.specs.Watches.{Watch, Honest}
 use Rattle.moves.specs.Moves.{Marks, listed, Off, marks, Mirrored, Mutual, writtenBoth, noted, keptOf, Struck, Moved, Tended, Lost}
-use Rattle.moves.proofs.Striking.{equal-true, written-here, written-there, written-back, put-some, put-lost}
+use Rattle.moves.proofs.Striking.{written-here, written-there, written-back, put-some, put-lost}
 
 -- two pairs of boards with one place are one pair
 pub place-one : (v p q a b : ℕ) → q < v → b < v → v * p + q ≡ v * a + b → (p ≡ a) × (q ≡ b)
@@ -281,7 +282,7 @@ module _ {C : List ℕ → Type 0} {v : ℕ} where
                 unchanged k =
                     let same = total-tight (both-table v p q b t (u .ready .table)) (u .ready .table) (mutual-inside v p q b t u hp hq) k in
                     let eq : keptOf v t p q b ≡ cell v t p q = sym (here v p q b t u hp hq some) ∙ ap (λ (y : List ℕ). cell v y p q) same in
-                    subst T (sym (equal-true eq) ∙ e) tt
+                    subst T (sym (eq-eqb _ _ eq) ∙ e) tt
 
             changed : Moved C v t m (struck v p q b t) (addedAt m p q)
             changed =

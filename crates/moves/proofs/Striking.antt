@@ -3,25 +3,18 @@ use mathlib.Core.Path.{_≡_, sym, ap, ap₂, _∙_, subst}
 use mathlib.Core.Bool.{Bool, true, false, not}
 use mathlib.Core.List.{List}
 use Prim.Native.Nat.{ℕ, _+_, _*_, _<_}
-use lib.Dec.{T, eqb, eqb→eq, eqb-refl, T-not}
+use borrow.Author.Tests.{eq-eqb, ne-eqb}
+use lib.Dec.{T, eqb, eqb→eq, T-not}
 use lib.ListN.{length, set, length-set}
-use lib.Seq.{getD-set-same, getD-set-other}
+use lib.Seq.{getD-set-same, getD-set-other, set-getD}
 use Rattle.rules.specs.Relations.{_liesWithin_, converse}
 use Rattle.rules.specs.Tables.{cell, Table, emptied}
-use Rattle.rules.proofs.Tests.{T-true, T-false, T-not-not}
+use Rattle.rules.proofs.Tests.{T-not-not}
 use Rattle.rules.proofs.Sets.{lies-zero}
 use Rattle.rules.proofs.Inside.{in-range, emptied-in}
-use Rattle.rules.proofs.Strikes.{set-back}
 use Rattle.passes.specs.Passes.{Ready}
 use Rattle.passes.proofs.Passes.{ready-place}
 use Rattle.moves.specs.Moves.{Mutual, writtenBoth, noted, PairPut, keptOf, Struck}
-
--- tests of numbers that are equal, and that are not
-pub equal-true : {x y : ℕ} → x ≡ y → eqb x y ≡ true
-equal-true {x} {y} e = T-true (subst (λ (z : ℕ). T (eqb x z)) e (eqb-refl x))
-
-pub unequal-false : {x y : ℕ} → (x ≡ y → ⊥) → eqb x y ≡ false
-unequal-false {x} {y} f = T-false (λ e. f (eqb→eq x y e))
 
 -- no cell of the table is empty
 pub cell-some : {v : ℕ} {t : List ℕ} {p q : ℕ} → Mutual v t → p < v → q < v → cell v t p q ≡ 0 → ⊥
@@ -50,7 +43,7 @@ module _ {v p q : ℕ} (x : ℕ) {t : List ℕ} (r : Ready v t) (hp : p < v) (hq
 -- where both cells were so before, nothing changes
 pub written-back : (v p q : ℕ) {x : ℕ} (t : List ℕ) → cell v t p q ≡ x → cell v t q p ≡ converse x → writtenBoth v t p q x ≡ t
 written-back v p q t e f =
-    ap₂ (λ (u : List ℕ) (y : ℕ). set u (v * q + p) y) (ap (λ (y : ℕ). set t (v * p + q) y) (sym e) ∙ set-back t (v * p + q)) (sym f) ∙ set-back t (v * q + p)
+    ap₂ (λ (u : List ℕ) (y : ℕ). set u (v * q + p) y) (ap (λ (y : ℕ). set t (v * p + q) y) (sym e) ∙ set-getD t (v * p + q) 0) (sym f) ∙ set-getD t (v * q + p) 0
 
 module _ {v p q x : ℕ} {t m : List ℕ} {idle : Bool} where
   -- what need not be put
@@ -59,7 +52,7 @@ module _ {v p q x : ℕ} {t m : List ℕ} {idle : Bool} where
       record {
         cells = sym (written-back v p q t e f);
         list = sym (ap (λ (z : Bool). noted z m p q) i);
-        told = sym (ap not (unequal-false some));
+        told = sym (ap not (ne-eqb _ _ some));
       }
 
   -- what was put, of a pair that is not idle
@@ -80,4 +73,4 @@ module _ {v p q x : ℕ} {t m : List ℕ} {idle : Bool} where
 pub struck-not : {v p q is : ℕ} (b : ℕ) {t m : List ℕ} → Mutual v t → p < v → q < v → is ≡ keptOf v t p q b → is ≡ cell v t p q → Struck v p q b t m t m true
 struck-not {v} {p} {q} b {t} u hp hq e f =
     let c : keptOf v t p q b ≡ cell v t p q = sym e ∙ f in
-    put-idle (sym c) (u .mirrored p q hp hq ∙ ap converse (sym c)) (λ z. cell-some u hp hq (sym c ∙ z)) (equal-true c)
+    put-idle (sym c) (u .mirrored p q hp hq ∙ ap converse (sym c)) (λ z. cell-some u hp hq (sym c ∙ z)) (eq-eqb _ _ c)

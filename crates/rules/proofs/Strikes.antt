@@ -1,6 +1,6 @@
 -- One cell narrowed by a set: a table inside the table, with as many relations less as the cell lost, which still holds every table whose cell lies
 -- within the set. Assumes nothing.
-use mathlib.Core.Path.{_≡_, refl, sym, ap, _∙_, subst}
+use mathlib.Core.Path.{_≡_, sym, _∙_, subst}
 use mathlib.Core.Bool.{not}
 use mathlib.Core.Logic.{⊎-elim}
 use mathlib.Core.List.{List, [], _∷_}
@@ -28,12 +28,6 @@ set-each P t k a h e j = ⊎-elim here there (T-decide (eqb j k))
         subst (λ (i : ℕ). P i (getD (set t k a) i 0)) (sym (eqb→eq j k d))
         (⊎-elim (λ l. subst (P k) (sym (getD-set-same t k a 0 (ltb→lt k (length t) l))) e)
         (λ n. subst (λ (u : List ℕ). P k (getD u k 0)) (sym (set-out t k a (nltb→le k (length t) n))) (h k)) (T-decide (ltb k (length t))))
-
--- what stands in a place, put there
-pub set-back : (t : List ℕ) (k : ℕ) → set t k (getD t k 0) ≡ t
-set-back [] k = refl
-set-back (x ∷ xs) zero = refl
-set-back (x ∷ xs) (suc k) = ap (λ (ys : List ℕ). x ∷ ys) (set-back xs k)
 
 pub total-set : (t : List ℕ) (k x : ℕ) → k < length t → total (set t k x) + size (getD t k 0) ≡ total t + size x
 unfolding total

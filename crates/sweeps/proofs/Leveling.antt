@@ -5,6 +5,7 @@ use mathlib.Core.Logic.{⊎-elim, _⊎_}
 use mathlib.Core.List.{List}
 use Prim.Native.Nat.{ℕ, _+_, _*_, _<_}
 use native.Mathlib.Omega.{arith}
+use borrow.Author.Tests.{eq-eqb}
 use lib.Dec.{T, eqb, eqb→eq, not-T}
 use lib.ListN.{length, getD}
 use Rattle.rules.specs.Relations.{relations, E, same, has, setTo, setOf, full, setLimit, _liesWithin_, converse}
@@ -18,7 +19,7 @@ use Rattle.rules.proofs.Rules.{same-small}
 use Rattle.rules.proofs.Inside.{each-place, inside-refl, inside-trans, emptied-out}
 use Rattle.passes.specs.Passes.{Filled, Idles, Ready}
 use Rattle.moves.specs.Moves.{Marks, Off, Mirrored, writtenBoth, noted, Lost}
-use Rattle.moves.proofs.Striking.{equal-true, within-none, written-here, written-there, put-idle, put-some, put-lost}
+use Rattle.moves.proofs.Striking.{within-none, written-here, written-there, put-idle, put-some, put-lost}
 use Rattle.moves.proofs.Reading.{is-told}
 use Rattle.moves.proofs.Passing.{turned}
 use Rattle.moves.proofs.Moving.{place-one, turned-E, both-inside, both-table, both-keeps, both-other, noted-list, noted-off, noted-here, off-mirror, off-both}
@@ -53,7 +54,7 @@ level-not {v} {p} {q} {is} {t} r e f =
     let side : converse (cell v t q p) ≡ full =
     all-full (converse-small (cell v t q p)) (subst (λ (x : ℕ). x liesWithin converse (cell v t q p)) c (meet-right (cell v t p q) (converse (cell v t q p)))) in
     let there : cell v t q p ≡ full = sym (converse-converse (cell v t q p) (r .table .small _)) ∙ ap converse side ∙ turned-full in
-    put-idle (here ∙ sym c) (there ∙ sym (ap converse c ∙ turned-full)) (λ z. full-some (sym c ∙ z)) (equal-true c)
+    put-idle (here ∙ sym c) (there ∙ sym (ap converse c ∙ turned-full)) (λ z. full-some (sym c ∙ z)) (eq-eqb _ _ c)
 
 -- ---- one pair
 

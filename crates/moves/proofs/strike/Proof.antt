@@ -3,10 +3,11 @@ use mathlib.Core.Path.{sym, _∙_, subst}
 use Prim.Native.Nat.{ℕ, _<_}
 use native.Mathlib.Omega.{arith}
 use borrow.Author.Needs.{needs}
+use borrow.Author.Tests.{ne-eqb}
 use Rattle.rules.specs.Relations.{setLimit}
 use Rattle.rules.proofs.Sets.{meet-small}
 use Rattle.passes.proofs.Passes.{place-few, ready-place}
-use Rattle.moves.proofs.Striking.{unequal-false, put-so, struck-not}
+use Rattle.moves.proofs.Striking.{put-so, struck-not}
 use Rattle.moves.proofs.strike.Statement.{statement}
 use Rattle.moves.proofs.strike.Tie as tie
 
@@ -42,7 +43,7 @@ returns-2 : tie.Need-returns-2
 returns-2 c =
     let called = c .before .before .before .before in
     let kept = called .before .before .before .before .meet .ensures in
-    put-so kept (unequal-false (λ z. called .before .before .before .if1 .left (kept ∙ z))) (called .put-pair .ensures)
+    put-so kept (ne-eqb _ _ (λ z. called .before .before .before .if1 .left (kept ∙ z))) (called .put-pair .ensures)
 
 pub strike-spec : {M : Type 1} → statement M
 strike-spec =

@@ -3,11 +3,12 @@ use mathlib.Core.Path.{sym, ap, _∙_, subst}
 use Prim.Native.Nat.{ℕ, _<_}
 use native.Mathlib.Omega.{arith}
 use borrow.Author.Needs.{needs}
+use borrow.Author.Tests.{ne-eqb}
 use Rattle.rules.specs.Relations.{setLimit, meet}
 use Rattle.rules.proofs.Sets.{meet-small}
 use Rattle.rules.proofs.Composition.{converse-small}
 use Rattle.passes.proofs.Passes.{place-few, ready-place}
-use Rattle.moves.proofs.Striking.{unequal-false, put-so}
+use Rattle.moves.proofs.Striking.{put-so}
 use Rattle.sweeps.proofs.Leveling.{full-is, level-not}
 use Rattle.sweeps.proofs.level.Statement.{statement}
 use Rattle.sweeps.proofs.level.Tie as tie
@@ -63,7 +64,7 @@ returns-2 c =
     let called = c .before .before .before .before in
     let met = called .before .before .before .before in
     let kept = met .meet .ensures ∙ ap (meet _) (met .before .before .converse .ensures) in
-    put-so kept (unequal-false (λ z. called .before .before .before .if1 .left (kept ∙ z ∙ full-is))) (called .put-pair .ensures)
+    put-so kept (ne-eqb _ _ (λ z. called .before .before .before .if1 .left (kept ∙ z ∙ full-is))) (called .put-pair .ensures)
 
 pub level-spec : {M : Type 1} → statement M
 level-spec =

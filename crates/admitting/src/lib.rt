@@ -1,4 +1,6 @@
 // What every call that is lent a description and a table looks at first: what is refused before anything else.
+#![tactic(auto)]
+
 ghost use Rattle.std.specs.Prelude.{◌≡◌};
 ghost use Rattle.tables.specs.Asks.{asks};
 ghost use Rattle.admitting.specs.Found.{admitted_found};

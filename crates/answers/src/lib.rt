@@ -1,4 +1,6 @@
 // The numbers that the rules document fixes: refusals, limits with room for what they allow, and answers; and numbers in wider types.
+#![tactic(auto)]
+
 pub mod limits;
 pub mod refusals;
 pub mod rooms;

@@ -1,4 +1,6 @@
 // One kind code means one number of ways: kind lines are compared with those before them. Any word is a code, so there is no table of codes.
+#![tactic(auto)]
+
 ghost use Rattle.std.specs.Prelude.{◌≡◌, ◌≤◌, [], take};
 ghost use Rattle.rules.specs.Descriptions.{disagrees, first_disagreeing, kind_words};
 ghost use Rattle.rules.specs.Relations.{some_of};

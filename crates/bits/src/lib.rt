@@ -1,4 +1,6 @@
 // Sets of small numbers as the bits of a word, a bit for each number: one is put in, the least is found, one is taken out.
+#![tactic(auto)]
+
 ghost use Rattle.std.specs.Prelude.{◌≡◌, ◌<◌, T, length};
 ghost use Rattle.rules.specs.Relations.{has};
 ghost use Rattle.bits.specs.Sets.{word_bits, added_at, removed, lowest};

@@ -1,6 +1,8 @@
 // The kind lines of a description, found by board: those with a panel there, or with a way, without looking at all of them. What tells them, the index,
 // is made once for many questions. It has a set of lines, by their numbers, for each board, another for each board and place among the ways, then for each
 // board a set of the places in which it is a way, and then where each line begins.
+#![tactic(auto)]
+
 ghost use Rattle.std.specs.Prelude.{◌≡◌, ◌+◌, ◌<◌, length, slice_index, replicate};
 ghost use Rattle.rules.specs.Descriptions.{most_boards, most_kinds, most_ways};
 ghost use Rattle.kinds.specs.Lines.{kind_at};

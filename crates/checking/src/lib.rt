@@ -1,4 +1,6 @@
 // The check of a table that somebody proposes: is it an arrangement of the description?
+#![tactic(auto)]
+
 ghost use Rattle.std.specs.Prelude.{◌≡◌, true, length, slice_index, nat_eq, ℕ, ◌<◌};
 ghost use Rattle.rules.specs.Relations.{each_of, set_limit, size};
 ghost use Rattle.rules.specs.Calls.{check};

@@ -1,5 +1,7 @@
 // Tries within a budget. No table is kept for each choice, but one byte for each pair of boards: after a failed try the cells are closed again from the
 // first table under the choices that stand.
+#![tactic(auto)]
+
 mod choices;
 mod pairs;
 

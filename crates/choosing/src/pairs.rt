@@ -4,7 +4,7 @@ ghost use Rattle.rules.specs.Descriptions.{most_boards};
 ghost use Rattle.choosing.specs.Pairs.{IsPair};
 
 // A pair of boards p < q, and how many pairs come before it. Past the last pair q is the number of boards.
-#[derive(Drop)]
+#[derive(Clone, Copy)]
 pub(crate) struct Pair {
     pub(crate) p: usize,
     pub(crate) q: usize,

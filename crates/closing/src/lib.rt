@@ -1,4 +1,6 @@
 // Closing and opening under a description that was read: first the rules that need no second look (1, 4 and 5), then rounds of the others.
+#![tactic(auto)]
+
 ghost use Rattle.std.specs.Prelude.{◌≡◌, length, replicate};
 ghost use Rattle.rules.specs.Calls.{opening, close};
 ghost use Rattle.answers.specs.Answers.{outcome};

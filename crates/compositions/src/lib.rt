@@ -1,4 +1,6 @@
 // Composition of sets of relations, by a table with an entry for each pair of sets.
+#![tactic(auto)]
+
 mod entries;
 
 ghost use Rattle.std.specs.Prelude.{◌≡◌, ◌<◌};

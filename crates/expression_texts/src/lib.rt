@@ -1,4 +1,6 @@
 // An expression, in prefix words, put into a text as people type it: with only the parentheses that are needed, each symbol after a blank.
+#![tactic(auto)]
+
 ghost use Rattle.std.specs.Prelude.{◌<◌, drop};
 ghost use Rattle.puts.specs.Texts.{HasRoom, Put};
 ghost use Rattle.typed.specs.Symbols.{word};

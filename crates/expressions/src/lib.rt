@@ -1,4 +1,6 @@
 // Expressions in prefix order.
+#![tactic(auto)]
+
 ghost use Rattle.std.specs.Prelude.{◌≡◌, ◌^◌, ◌/◌, ◌%◌, ◌≤◌, ◌<◌, nat_eq, length};
 ghost use Rattle.rules.specs.Relations.{set_limit};
 ghost use Rattle.rules.specs.Descriptions.{most_expression_words};

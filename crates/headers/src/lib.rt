@@ -1,4 +1,6 @@
 // The header of a description.
+#![tactic(auto)]
+
 ghost use Rattle.std.specs.Prelude.{◌≡◌};
 ghost use Rattle.headers.specs.Found.{numbered, good_header, refused_header, header_found};
 
@@ -7,14 +9,14 @@ use answers::refusals::{MISPLACED, OUT_OF_RANGE, Refusal};
 use answers::widths::word_number;
 
 // A section of a description: where its lines begin, and how many there are.
-#[derive(Drop)]
+#[derive(Clone, Copy)]
 pub struct Section {
     pub at: usize,
     pub count: usize,
 }
 
 // A header says how many boards there are, and where the relation lines and the kind lines stand.
-#[derive(Drop)]
+#[derive(Clone, Copy)]
 pub struct Header {
     pub boards: usize,
     pub lines: Section,

@@ -1,4 +1,6 @@
 // Kind lines, tested at the front of the words of their section.
+#![tactic(auto)]
+
 ghost use Rattle.std.specs.Prelude.{◌≡◌};
 ghost use Rattle.rules.specs.Descriptions.{refused, boards_before, kind_line};
 ghost use Rattle.kind_lines.specs.Found.{kind_found};

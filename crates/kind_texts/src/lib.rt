@@ -1,4 +1,6 @@
 // A typed kind line after its colon: its words go to the words of the description.
+#![tactic(auto)]
+
 ghost use Rattle.std.specs.Prelude.{◌≡◌, ◌+◌, ◌≤◌, length, drop, replicate};
 ghost use Rattle.rules.specs.Descriptions.{most_ways};
 ghost use Rattle.typed.specs.Symbols.{symbols};

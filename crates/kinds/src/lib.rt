@@ -1,4 +1,6 @@
 // Kind lines by their place in the words of a section that was read.
+#![tactic(auto)]
+
 ghost use Rattle.std.specs.Prelude.{◌≡◌, ◌+◌, ◌≤◌, ◌<◌, length, slice_index};
 ghost use Rattle.kinds.specs.Lines.{kind_at};
 
@@ -6,7 +8,7 @@ use answers::limits::LINE_WORDS;
 use answers::widths::word_number;
 
 // p is a panel of this code, and feeds exactly the ways that stand from the word `first` up to the word `end`, where the next line begins.
-#[derive(Drop)]
+#[derive(Clone, Copy)]
 pub struct KindLine {
     pub p: usize,
     pub code: u16,

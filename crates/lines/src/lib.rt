@@ -1,4 +1,5 @@
 // Relation lines, each at the front of the words of its section: one is tested first, and read when it strikes.
+#![tactic(auto)]
 
 ghost use Rattle.std.specs.Prelude.{◌≡◌, ◌-◌, ◌≤◌};
 ghost use Rattle.rules.specs.Descriptions.{relation_line};

@@ -1,4 +1,6 @@
 // What the program prints for the bytes that it read: everything that it decides is decided here.
+#![tactic(auto)]
+
 mod texts;
 
 ghost use Rattle.std.specs.Prelude.{◌≡◌, replicate, ◌≤◌};

@@ -84,7 +84,7 @@ scan_recognised (right_paren ∷ ss) zero e = tt
 scan_recognised (right_paren ∷ ss) (suc d) true = tt
 scan_recognised (right_paren ∷ ss) (suc d) false = scan_recognised ss d false
 scan_recognised (unknown ∷ ss) d e = tt
-scan_recognised (word k ∷ ss) d e = unless_word _ (fits e k) _ (scan d (not (names k)) ss) (scan_recognised ss d (not (names k)))
+scan_recognised (word k ∷ ss) d e = unless_word _ (fits e k) (record { code = k; depth = d } ∷ []) (scan d (not (names k)) ss) (scan_recognised ss d (not (names k)))
 scan_recognised (number n ∷ []) d e = unless_last (eqb d 0 && not e) n
 scan_recognised (number n ∷ (s ∷ ss)) d e = tt
 

@@ -1,4 +1,6 @@
 // A cell narrowed from both sides, with the list of pairs that lost something: a word for each board, with a bit for each other board.
+#![tactic(auto)]
+
 ghost use Rattle.std.specs.Prelude.{◌≡◌, false, ◌<◌, ◌≤◌, length, replicate};
 ghost use Rattle.rules.specs.Descriptions.{most_boards};
 ghost use Rattle.rules.specs.Relations.{set_limit};

@@ -1,4 +1,6 @@
 // Rules 1 and 4: their bounds stay, whatever the table, so that they strike once.
+#![tactic(auto)]
+
 ghost use Rattle.rules.specs.Closing.{rules1, rules4};
 ghost use Rattle.passes.specs.Passes.{Ready, Once};
 ghost use Rattle.kinds.specs.Sections.{HasLines, WithLines};

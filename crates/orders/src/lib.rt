@@ -1,4 +1,6 @@
 // Sets of relations in the order in which a search tries them, whatever the order is.
+#![tactic(auto)]
+
 ghost use Rattle.std.specs.Prelude.{◌≡◌, ◌<◌};
 ghost use Rattle.rules.specs.Relations.{set_limit};
 ghost use Rattle.rules.specs.Search.{Order};

@@ -1,4 +1,6 @@
 // Rule 6: nothing lies below a panel but its ways and what is below them. Each pair that loses something by it is put on the list.
+#![tactic(auto)]
+
 ghost use Rattle.std.specs.Prelude.{◌≡◌, ◌++◌, ◌≤◌, ◌<◌, length};
 ghost use Rattle.rules.specs.Relations.{set_limit};
 ghost use Rattle.rules.specs.Closing.{reaches, rules2, rule6, rules6};

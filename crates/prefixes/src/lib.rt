@@ -1,4 +1,6 @@
 // The words of an expression in prefix order, from the words as they were typed with the depth at which each stands.
+#![tactic(auto)]
+
 ghost use Rattle.std.specs.Prelude.{◌≡◌, ◌+◌, ◌≤◌, ◌<◌, length};
 ghost use Rattle.std.proofs.lemmas.List.Edits.{sets};
 ghost use Rattle.typed.specs.Scanning.{level, outranks, chief, prefixed};

@@ -1,4 +1,6 @@
 // Bytes and numbers, put into a text from a place on. Each function answers the next place.
+#![tactic(auto)]
+
 ghost use Rattle.std.specs.Prelude.{◌≡◌, [], ◌∷◌};
 ghost use Rattle.puts.specs.Decimals.{last_digit, decimal};
 ghost use Rattle.puts.specs.Texts.{HasRoom, Put};

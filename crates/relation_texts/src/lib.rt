@@ -1,4 +1,6 @@
 // A typed relation line after its first board: gone over once, its words go to the words of the description.
+#![tactic(auto)]
+
 ghost use Rattle.std.specs.Prelude.{◌≡◌, true, false, not, ◌&&◌, ◌+◌, ◌≤◌, ◌<◌, nat_eq, length, drop, replicate};
 ghost use Rattle.rules.specs.Descriptions.{most_expression_words};
 ghost use Rattle.typed.specs.Symbols.{symbols};

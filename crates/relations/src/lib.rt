@@ -1,4 +1,6 @@
 // Sets of relations between two boards as bytes, a bit for each relation: their operations.
+#![tactic(auto)]
+
 ghost use Rattle.std.specs.Prelude.{◌≡◌, ◌^◌, ◌<◌, replicate};
 ghost use Rattle.rules.specs.Descriptions.{most_cells};
 ghost use Rattle.rules.specs.Relations.{relations, set_limit, full, meet, join, complement, converse, size};

@@ -1,4 +1,6 @@
 // Closing by the list of pairs that lost something: only what reads them is looked at again.
+#![tactic(auto)]
+
 ghost use Rattle.std.specs.Prelude.{◌<◌, ◌≤◌};
 ghost use Rattle.rules.specs.Descriptions.{most_kinds};
 ghost use Rattle.passes.specs.Passes.{Ready};

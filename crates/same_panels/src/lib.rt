@@ -1,4 +1,6 @@
 // Rule 7: panels that are the same have one code, and the same ways in the same places. What it strikes is put on the list of pairs that lost something.
+#![tactic(auto)]
+
 ghost use Rattle.std.specs.Prelude.{◌≡◌, ◌++◌, ◌≤◌, ◌<◌, length};
 ghost use Rattle.rules.specs.Descriptions.{most_boards, SameArity};
 ghost use Rattle.rules.specs.Closing.{rules2, rule7, rules7};

@@ -1,4 +1,6 @@
 // The search for an arrangement inside a table that was admitted: the first closing, the tries, and the answer.
+#![tactic(auto)]
+
 ghost use Rattle.std.specs.Prelude.{◌≡◌, length};
 ghost use Rattle.rules.specs.Search.{Order};
 ghost use Rattle.rules.specs.Calls.{searching};

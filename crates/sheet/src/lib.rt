@@ -1,4 +1,6 @@
 // Descriptions: a lent run of 16-bit words, header, relation lines and kind lines.
+#![tactic(auto)]
+
 mod sections;
 
 ghost use Rattle.std.specs.Prelude.{◌≡◌};

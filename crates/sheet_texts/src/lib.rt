@@ -1,4 +1,6 @@
 // A good description, put into a text as people type it: the number of boards, the relation lines, the kind lines.
+#![tactic(auto)]
+
 ghost use Rattle.std.specs.Prelude.{◌≡◌, [], ◌∷◌, ◌≤◌, length, replicate};
 ghost use Rattle.puts.specs.Texts.{HasRoom, Put};
 ghost use Rattle.typed.specs.Symbols.{boards, number};

@@ -1,4 +1,6 @@
 // Reads a description from standard input and prints what is listed for it. It only moves bytes: what is printed is decided in the crate `listing`.
+#![tactic(auto)]
+
 ghost use Rattle.std.specs.Prelude.{◌≡◌, ◌+◌, ◌≤◌, length};
 ghost use Rattle.listing.specs.Listings.{most_bytes};
 ghost use Rattle.site.specs.Reading.{AtMost};

@@ -1,4 +1,6 @@
 // The solver's face: the calls, for whatever they are lent. The calls for C, the programs and later crates stand on these and see nothing below.
+#![tactic(auto)]
+
 ghost use Rattle.std.specs.Prelude.{◌≡◌};
 ghost use Rattle.rules.specs.Search.{plain_order};
 ghost use Rattle.rules.specs.Calls.{reading, opening, close, searching, check};

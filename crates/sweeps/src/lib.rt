@@ -1,4 +1,6 @@
 // Rules 2 and 3, which look at boards alone: each two boards from both sides, and each three boards by way of two of them.
+#![tactic(auto)]
+
 ghost use Rattle.std.specs.Prelude.{◌<◌};
 ghost use Rattle.compositions.specs.Composing.{Composes};
 ghost use Rattle.passes.specs.Passes.{Ready};

@@ -1,4 +1,6 @@
 // The symbols of a typed line, one after the other.
+#![tactic(auto)]
+
 ghost use Rattle.std.specs.Prelude.{◌≡◌, ◌≤◌, length};
 ghost use Rattle.typed.specs.Symbols.{equal_bytes, number_of, symbol_of, parts};
 ghost use Rattle.symbols.specs.Tokens.{mark, token, Digit, padded, Skipped, RunEnd};

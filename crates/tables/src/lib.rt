@@ -1,4 +1,6 @@
 // Tables of sets, a byte for each pair of boards.
+#![tactic(auto)]
+
 ghost use Rattle.std.specs.Prelude.{◌≡◌, ℕ, ◌≤◌, ◌<◌, length, slice_index, nat_lt};
 ghost use Rattle.rules.specs.Relations.{each_of, set_limit};
 ghost use Rattle.rules.specs.Descriptions.{most_boards, most_cells};

@@ -1,4 +1,6 @@
 // What taking the words of a typed line answers, and the words that every line begins with.
+#![tactic(auto)]
+
 ghost use Rattle.std.specs.Prelude.{◌≡◌, ◌+◌, ◌≤◌, length};
 ghost use Rattle.std.proofs.lemmas.List.Edits.{sets};
 ghost use Rattle.taken.specs.Lines.{Begun};

@@ -1,4 +1,6 @@
 // The calls for C: numbers and lent slices, with the answer packed in one number.
+#![tactic(auto)]
+
 ghost use Rattle.std.specs.Prelude.{◌≡◌};
 ghost use Rattle.rules.specs.Search.{plain_order};
 ghost use Rattle.rules.specs.Calls.{reading, opening, close, searching, check};

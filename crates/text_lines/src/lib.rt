@@ -1,4 +1,6 @@
 // The lines of a typed sheet, one after the other: their words are gathered by their sorts.
+#![tactic(auto)]
+
 ghost use Rattle.std.specs.Prelude.{◌≡◌, false, ◌+◌, ◌≤◌, ◌<◌, length, drop, replicate};
 ghost use Rattle.rules.specs.Descriptions.{most_words};
 ghost use Rattle.typed.specs.Symbols.{symbols};

@@ -1,1 +1,2 @@
 // Radial trees, the boards placed in them, and when a tree fits a description: definitions and laws alone.
+#![tactic(auto)]

@@ -1,1 +1,2 @@
 // Typed sheets: the definitions and their laws. It holds no code.
+#![tactic(auto)]

@@ -1,4 +1,6 @@
 // Rule 5: a panel's ways lie below it and beside each other. Its bounds stay, whatever the table, so that it strikes once.
+#![tactic(auto)]
+
 ghost use Rattle.std.specs.Prelude.{◌≡◌};
 ghost use Rattle.rules.specs.Closing.{rule5, rules5};
 ghost use Rattle.passes.specs.Passes.{Ready, Once};

@@ -1,4 +1,6 @@
 // Bytes as little-endian words.
+#![tactic(auto)]
+
 ghost use Rattle.std.specs.Prelude.{◌≡◌, ◌*◌, length};
 ghost use Rattle.words.specs.Words.{words};
 

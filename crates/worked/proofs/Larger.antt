@@ -9,7 +9,7 @@ use Rattle.rules.specs.Tables.{emptied, total}
 use Rattle.rules.specs.Closing.{reaches, agree, bound6, bound6', bound7, bound7', rules1, rules2, rules3, rules4, rules5, rules6, rules7, rules, strike, sweep, sweeps, closing}
 use Rattle.rules.specs.Search.{attempt, choose, places, search, cap}
 use Rattle.rules.specs.Calls.{well_formed, admitted, reading, opening, searching, arranged, check}
-use Rattle.rules.specs.Cases.{AllHold, done, _also_, larger}
+use Rattle.rules.specs.Cases.{AllHold, done, ◌also◌, larger}
 
 pub larger_shown : AllHold larger
 unfolding relations has set_to set_of full meet join complement within size opposite converse singles composed compose codes code

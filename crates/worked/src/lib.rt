@@ -1,1 +1,2 @@
 // Sites that take longer to compute, shown of the definitions. It holds no code.
+#![tactic(auto)]

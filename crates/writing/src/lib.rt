@@ -1,4 +1,6 @@
 // The text writer: from the words of a description to its typed sheet.
+#![tactic(auto)]
+
 ghost use Rattle.std.specs.Prelude.{◌≡◌};
 ghost use Rattle.answers.specs.Answers.{outcome};
 ghost use Rattle.typed.specs.Writing.{text_of};

@@ -184,6 +184,8 @@ def old_words(text):
         text = re.sub(r"(?<![\w'-])%s(?![\w'-]|→)" % old, new, text)
     out, at = [], 0
     for m in re.finditer(r"(?<![\w'-])get_or(?![\w'-])", text):
+        if m.start() < at:
+            continue
         out.append(text[at:m.start()])
         at = m.end()
         after = atoms(text, at)

@@ -131,7 +131,7 @@ singles =
     ∷ []
 
 unfoldable pub composed : ℕ → ℕ → ℕ
-composed r s = slice_index (slice_index_or singles r []) sslice_index_or singles r []) s 0
+composed r s = slice_index (slice_index_or singles r []) s
 
 -- Two sets compose to the union over all pairs of members.
 unfoldable pub compose : ℕ → ℕ → ℕ

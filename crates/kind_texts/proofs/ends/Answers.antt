@@ -1,0 +1,9 @@
+-- `ends` meets its contract: where the line ends, no symbol is read. Assumes nothing.
+use Rattle.symbols.proofs.Steps.{stepped}
+use Rattle.kind_texts.proofs.Moves.{none_read}
+use Rattle.kind_texts.proofs.ends.Goals as goal
+
+pub returns : goal.returns
+returns c =
+    let line = c.args.line.now in
+    none_read line c.args.at _ (stepped line c.args.at c.requires c.symbol_at-token.ensures)

@@ -1,0 +1,12 @@
+use Rattle.rules.specs.Closing.{rules6}
+use Rattle.by_board.specs.Found.{numbered}
+use Rattle.moves.specs.Moves.{Fed}
+use Rattle.moves.specs.Visits.{Keeping}
+use Rattle.moves.proofs.Passing.{Passing}
+use Rattle.panels.proofs.rule6_each.Given as goal
+
+abbrev pub invariant-loop-left : goal.invariant-loop-left
+invariant-loop-left l = Passing (Keeping rules6 l.v) l.v l.count l.words l.found (λ n. Fed l.v (numbered l.words n) l.z) l.lines l.left l.initial.cells l.initial.marks l.cells l.marks
+
+abbrev pub decreases-loop-left : goal.decreases-loop-left
+decreases-loop-left l = l.left

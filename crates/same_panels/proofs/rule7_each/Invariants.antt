@@ -1,0 +1,11 @@
+use Rattle.rules.specs.Closing.{rules7}
+use Rattle.moves.specs.Visits.{Keeping}
+use Rattle.moves.proofs.Passing.{Passing}
+use Rattle.same_panels.specs.Visits.{Beside}
+use Rattle.same_panels.proofs.rule7_each.Given as goal
+
+abbrev pub invariant-loop-left : goal.invariant-loop-left
+invariant-loop-left l = Passing (Keeping rules7 l.v) l.v l.count l.words l.found (λ n. Beside l.v l.words n l.others) l.lines l.left l.initial.cells l.initial.marks l.cells l.marks
+
+abbrev pub decreases-loop-left : goal.decreases-loop-left
+decreases-loop-left l = l.left

@@ -1,0 +1,13 @@
+-- `rule7_unlisted` meets its contract: of lines that a pair on the list would bring up nothing is asked. Assumes nothing.
+use Rattle.rules.proofs.Tests.{unequal}
+use Rattle.moves.proofs.Moving.{moved_none}
+use Rattle.moves.proofs.Passing.{went_so}
+use Rattle.same_panels.proofs.Visiting.{unlisted_none, unlisted_two}
+use Rattle.same_panels.proofs.rule7_unlisted.Goals as goal
+
+pub returns-then-line-other-2 : goal.returns-then-line-other-2
+returns-then-line-other-2 c = let pre = c.requires in (moved_none pre.0 pre.1, unlisted_none c.if-line-other.true (unequal _ _ c.if-line-other-2.true-raw))
+
+pub returns : goal.returns
+returns c =
+    went_so _ _ _ _ _ _ _ _ c.rule7.result (λ moved. unlisted_two) c.rule7.ensures

@@ -1,0 +1,37 @@
+-- `search_in_room` meets its contract: each of its ends is one of the laws of a search. Assumes nothing.
+use mathlib.Core.Path.{sym, ◌∙◌, subst}
+use Rattle.closing.specs.Closes.{Admitted}
+use Rattle.rounds.proofs.Draining.{empty_list}
+use Rattle.search.proofs.Searching.{first_whole, search_emptied, search_struck}
+use Rattle.search.proofs.search_in_room.Goals as goal
+
+pub close_cells-requires : goal.close_cells-requires
+close_cells-requires c = subst (Admitted c.args.h c.args.words.now) (sym c.copy.ensures) c.requires.admitted
+
+pub returns-in_default : goal.returns-in_default
+returns-in_default c =
+    search_emptied c.requires.admitted c.copy.ensures _ _ c.close_cells.ensures c.args.order.now c.args.budget c.in_default.is c.refuse.ensures
+
+pub tell_kinds-requires : goal.tell_kinds-requires
+tell_kinds-requires c = let pre = c.requires in (pre.admitted.header, pre.index)
+
+pub choose-ended-requires : goal.choose-ended-requires
+choose-ended-requires c =
+    record {
+      told = c.tell_kinds.ensures;
+      list = empty_list c.args.marks.now c.requires.list;
+      order = c.requires.order;
+      bytes = c.requires.bytes;
+      whole = λ s e. first_whole s _ _ c.in-Struck.is (c.close_cells.ensures s e);
+      cells = c.copy-2.ensures;
+    }
+
+pub conclude-requires : goal.conclude-requires
+conclude-requires c = sym (c.choose-ended.auto.cells ∙ c.copy-2.auto.to ∙ c.requires.cells)
+
+pub returns : goal.returns
+returns c =
+    let choose = c.choose-ended in
+    c.conclude.ensures
+    ∙ search_struck c.requires.admitted c.copy.ensures _ _ c.close_cells.ensures c.args.order.now c.args.budget c.in-Struck.is
+    choose.new.cells choose.result choose.ensures

@@ -133,11 +133,15 @@ class Spelling:
         return WORD.sub(lambda m: self.camel.get(m[0], m[0]), text)
 
     def undash(self, text, walk, theirs):
+        # names that a file gives modules of this repository: what stands after one of them and a dot is a name of that module
+        modules = {m[3] for m in USE.finditer(text) if m[3] and m[2] is None and own_module(m[1])}
+
         def one(m):
             name = m[0]
             if name in theirs or name not in self.dashed:
                 return name
-            if walk and text[m.start() - 1:m.start()] == "." and name not in self.fields:
+            before = re.search(r"(%s)\.$" % NAME, text[:m.start()][-80:])
+            if walk and before and before[1] not in modules and name not in self.fields:
                 return name
             return self.dashed[name]
 

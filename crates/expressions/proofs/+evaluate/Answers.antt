@@ -149,7 +149,7 @@ module _ (t : ℕ) (c : AtSecond t) where
   second-small = (evaluation.operand _ _ _ second).small
 
 pub returns-then-words-eq0 : goal.returns-then-words-eq0
-returns-then-words-eq0 t c = evaluation.finds-nothing c.args.words.now c.if-words-eq0.true
+returns-then-words-eq0 t c = evaluation.finds_nothing c.args.words.now c.if-words-eq0.true
 
 pub bounds-words-0 : goal.bounds-words-0
 bounds-words-0 t c = pos_of_ne-zero c.if-words-eq0.false
@@ -157,7 +157,7 @@ bounds-words-0 t c = pos_of_ne-zero c.if-words-eq0.false
 pub returns-then-word-ge-CODES : goal.returns-then-word-ge-CODES
 unfolding codes
 returns-then-word-ge-CODES t c =
-    evaluation.finds-unknown (words t c.before.before) (some t c.before.before) (front t c.before.before ∙ no_code c.word_number-word.result c.if-word-ge-CODES.true)
+    evaluation.finds_unknown (words t c.before.before) (some t c.before.before) (front t c.before.before ∙ no_code c.word_number-word.result c.if-word-ge-CODES.true)
 
 pub among-requires : goal.among-requires
 among-requires t c = omega (arith, c.if-word-ge-CODES.false)
@@ -171,7 +171,7 @@ overflow_sub-result t c = pos_of_ne-zero (some t c.before.before.before.before.b
 pub returns-then-not-among : goal.returns-then-not-among
 returns-then-not-among t c =
     let head = c.before.before.before.before.before in
-    evaluation.finds-relation (words t head) (some t head) _ (front t head ∙ c.set_of.ensures)
+    evaluation.finds_relation (words t head) (some t head) _ (front t head ∙ c.set_of.ensures)
 
 pub slice_bounds-evaluate-count : goal.slice_bounds-evaluate-count
 slice_bounds-evaluate-count t c = pos_of_ne-zero (some t c.before.before.before.before)
@@ -187,7 +187,7 @@ returns-in_default t c =
     let operator = c.before.before.before.before in
     let head = c.before.before.before.before.before.before.before in
     c.in_default.is
-    ∙ evaluation.finds-no-first (words t head) (some t head) _ (front t head) (takes-some t operator) (takes_few t operator) _
+    ∙ evaluation.finds_no_first (words t head) (some t head) _ (front t head) (takes-some t operator) (takes_few t operator) _
     (lent 1 (words t head) _ (sym c.in_default.is ∙ c.evaluate-first.ensures))
 
 pub among-requires-2 : goal.among-requires-2
@@ -203,7 +203,7 @@ returns-then-among t c =
     let at = c.before.before.before.before in
     let head = (before-first t at).before.before in
     rw c.apply_one.ensures
-    (evaluation.finds-one (words t head) (some t head) _ _ (first t at) _ (front t head ∙ is_one _ (takes_one t c.before.before.before c.if-among.true)))
+    (evaluation.finds_one (words t head) (some t head) _ _ (first t at) _ (front t head ∙ is_one _ (takes_one t c.before.before.before c.if-among.true)))
 
 pub overflow_sub-second : goal.overflow_sub-second
 overflow_sub-second t c = le_of_lt (second-within t c.before.before.before)
@@ -223,7 +223,7 @@ returns-in_default-last t c =
     let at = c.before.before.before.before.before.before in
     let head = (before-first t at).before.before in
     c.in_default-last.is
-    ∙ evaluation.finds-no-second (words t head) (some t head) _ _ (first t at) _ (front t head ∙ is_two _ (takes_two t c.before.before.before.before.before c.if-among.false)) _
+    ∙ evaluation.finds_no_second (words t head) (some t head) _ _ (first t at) _ (front t head ∙ is_two _ (takes_two t c.before.before.before.before.before c.if-among.false)) _
     (lent (length (words t head) - left t at) (words t head) _ (sym c.in_default-last.is ∙ c.evaluate-last.ensures))
 
 pub apply_two-requires : goal.apply_two-requires
@@ -238,4 +238,4 @@ returns t c =
     let at = last.before.before in
     let head = (before-first t at).before.before in
     rw c.apply_two.ensures
-    (evaluation.finds-two (words t head) (some t head) _ _ (first t at) _ _ (second t c.before.before) _ (front t head ∙ is_two _ (takes_two t last.before last.if-among.false)))
+    (evaluation.finds_two (words t head) (some t head) _ _ (first t at) _ _ (second t c.before.before) _ (front t head ∙ is_two _ (takes_two t last.before last.if-among.false)))

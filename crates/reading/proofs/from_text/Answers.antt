@@ -72,7 +72,7 @@ module _ (c : AtFew) where
   kinds_room_lem = gathered.kinds-2-1.given
 
   joining : Joins (relation_words_lem gathered) (kind_words_lem gathered) (lines gathered)
-  joining = joins (sorted gathered).whole few_relations few_kinds (sorted gathered).relation-lines (sorted gathered).kind-lines words_room kinds_room_lem
+  joining = joins (sorted gathered).whole few_relations few_kinds (sorted gathered).relation_lines_lem (sorted gathered).kind_lines_lem words_room kinds_room_lem
 
 module _ (c : AtJoined) where
   abbrev few : AtFew
@@ -83,7 +83,7 @@ module _ (c : AtJoined) where
 
   total-fits : c.join-total.result ≤ most_words
   total-fits =
-      total_few parts-of.whole (few_relations few) (few_kinds few) parts-of.relation-lines parts-of.kind-lines (words_room few) (kinds_room_lem few)
+      total_few parts-of.whole (few_relations few) (few_kinds few) parts-of.relation_lines_lem parts-of.kind_lines_lem (words_room few) (kinds_room_lem few)
       c.join-total.ensures
 
   abbrev joined : List ℕ
@@ -92,7 +92,7 @@ module _ (c : AtJoined) where
   joined-told : given (read joined) (room (gathered few)) (λ s. in_room joined (room (gathered few))) ≡ from_text (text (gathered few)) (room (gathered few))
   joined-told =
       told (gathered few)
-      (joined_read parts-of.whole (few_relations few) (few_kinds few) parts-of.relation-lines parts-of.kind-lines (words_room few) (kinds_room_lem few)
+      (joined_read parts-of.whole (few_relations few) (few_kinds few) parts-of.relation_lines_lem parts-of.kind_lines_lem (words_room few) (kinds_room_lem few)
       c.join-total.ensures (room (gathered few)))
 
 -- ---- what the code leaves

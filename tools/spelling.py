@@ -117,7 +117,7 @@ class Spelling:
             for name in dashed & set(TOKEN.findall(text)):
                 used.setdefault(name, set()).update(theirs)
         after = {self.snake(n) for n in names}
-        self.dashed = dict(LEMMAS)
+        self.dashed = {n: to for n, to in LEMMAS.items() if to not in names}
         for name in sorted(dashed):
             to = undashed(self.snake(name))
             if to == name:

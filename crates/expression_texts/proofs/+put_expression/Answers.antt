@@ -138,15 +138,15 @@ name t c = let s : AtStart t = c.before.before.before.before in names (words t s
 
 -- ---- a word with one operand
 
-abbrev one-start : (t : ℕ) → AtOne t → AtStart t
-one-start t c = c.before.before.before.before.before
+abbrev one_start : (t : ℕ) → AtOne t → AtStart t
+one_start t c = c.before.before.before.before.before
 
-one : (t : ℕ) (c : AtOne t) → let s : AtStart t = one-start t c in HasOne (words t s) (at t s) (level t s)
-one t c = let s : AtStart t = one-start t c in has_one (words t s) (at t s) (begun t s) (omega (arith, c.if-code-gt-AND.true)) (level t s)
+one : (t : ℕ) (c : AtOne t) → let s : AtStart t = one_start t c in HasOne (words t s) (at t s) (level t s)
+one t c = let s : AtStart t = one_start t c in has_one (words t s) (at t s) (begun t s) (omega (arith, c.if-code-gt-AND.true)) (level t s)
 
 module _ (t : ℕ) (c : AtBegun t) where
   abbrev begun-start : AtStart t
-  begun-start = one-start t c.before.before
+  begun-start = one_start t c.before.before
 
   room-operand : HasRoom c.put_word-begun.new.text c.put_word-begun.result (operand t begun-start)
   room-operand =
@@ -290,7 +290,7 @@ returns-then-code-lt-OR t c =
 pub put_word-begun-requires : goal.put_word-begun-requires
 put_word-begun-requires t c =
     let here = c.before.before in
-    let s = one-start t here in
+    let s = one_start t here in
     ((one t here).listed, fits_first (shown t s) (operand t s) (fits_as (one t here).text (room t s)))
 
 pub put_expression-requires : goal.put_expression-requires

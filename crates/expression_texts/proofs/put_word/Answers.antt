@@ -16,8 +16,8 @@ abbrev shown : ℕ → List ℕ
 shown k = spaced (word k)
 
 -- a code below eight that is none of the first seven is the last
-past-names : (k : ℕ) → (k ≡ 0 → ⊥) → (k ≡ 1 → ⊥) → (k ≡ 2 → ⊥) → (k ≡ 3 → ⊥) → 4 ≤ k
-past-names k p q r s = omega arith
+past_names : (k : ℕ) → (k ≡ 0 → ⊥) → (k ≡ 1 → ⊥) → (k ≡ 2 → ⊥) → (k ≡ 3 → ⊥) → 4 ≤ k
+past_names k p q r s = omega arith
 
 last_code : (k : ℕ) → 4 ≤ k → k < 8 → (k ≡ 4 → ⊥) → (k ≡ 5 → ⊥) → (k ≡ 6 → ⊥) → k ≡ 7
 last_code k h l p q r = omega arith
@@ -27,7 +27,7 @@ AtLast = lts.Else7 tie.the-claims reads.Pre reads.Post
 
 is_last : (c : AtLast) → c.args.code ≡ 7
 is_last c =
-    last_code _ (past-names _ c.if-code-eq0.false c.if-code-eq1.false c.if-code-eq2.false c.if-code-eq3.false)
+    last_code _ (past_names _ c.if-code-eq0.false c.if-code-eq1.false c.if-code-eq2.false c.if-code-eq3.false)
     c.requires.0 c.if-code-eq-OR.false c.if-code-eq-AND.false c.if-code-eq6.false
 
 pub put_text-requires : goal.put_text-requires

@@ -92,8 +92,8 @@ module _ (t : ℕ) (c : AtCode t) where
   takes-marked : c.among.result ≡ true → operands (code word) + 192 / 2 ^ word % 2 ≡ 2
   takes-marked e = omega (arith, operands_marked word listed, eqb-true (240 / 2 ^ word % 2) 1 (sym c.among.ensures ∙ e))
 
-takes-some : (t : ℕ) (c : AtOperator t) → operands (code (word t c.before)) ≡ 0 → ⊥
-takes-some t c e = let z : ⊥ = omega (arith, takes-marked t c.before (not-false _ c.if-not-among.false-raw)) in z
+takes_some : (t : ℕ) (c : AtOperator t) → operands (code (word t c.before)) ≡ 0 → ⊥
+takes_some t c e = let z : ⊥ = omega (arith, takes-marked t c.before (not-false _ c.if-not-among.false-raw)) in z
 
 takes_few : (t : ℕ) (c : AtOperator t) → operands (code (word t c.before)) ≤ 2
 takes_few t c = omega (arith, takes-marked t c.before (not-false _ c.if-not-among.false-raw))
@@ -187,7 +187,7 @@ returns-in_default t c =
     let operator = c.before.before.before.before in
     let head = c.before.before.before.before.before.before.before in
     c.in_default.is
-    ∙ evaluation.finds_no_first (words t head) (some t head) _ (front t head) (takes-some t operator) (takes_few t operator) _
+    ∙ evaluation.finds_no_first (words t head) (some t head) _ (front t head) (takes_some t operator) (takes_few t operator) _
     (lent 1 (words t head) _ (sym c.in_default.is ∙ c.evaluate-first.ensures))
 
 pub among-requires-2 : goal.among-requires-2

@@ -39,18 +39,18 @@ even c = omega tested
 few : (c : lts.After-words_room tie.the-claims reads.Pre reads.Post) → length (given c) ≤ most_bytes
 few c = omega tested
 
-in-room : (c : lts.After-words_room tie.the-claims reads.Pre reads.Post) → length (given c) / 2 ≤ length c.words_room-words.result
-in-room c = omega (arith, few c, ap length c.words_room-words.ensures ∙ length-replicate {A = ℕ} most_words 0)
+in_room_lem : (c : lts.After-words_room tie.the-claims reads.Pre reads.Post) → length (given c) / 2 ≤ length c.words_room-words.result
+in_room_lem c = omega (arith, few c, ap length c.words_room-words.ensures ∙ length-replicate {A = ℕ} most_words 0)
 
 taken : (c : lts.After-words_room tie.the-claims reads.Pre reads.Post) → length (take (length (given c) / 2) c.words_room-words.result) ≡ length (given c) / 2
-taken c = length-take-le (length (given c) / 2) c.words_room-words.result (in-room c)
+taken c = length-take-le (length (given c) / 2) c.words_room-words.result (in_room_lem c)
 
 halves : (c : lts.After-words_room tie.the-claims reads.Pre reads.Post) → length (given c) ≡ 2 * (length (given c) / 2)
 halves c = omega (arith, even c)
 
 pub slice_bounds-words-end : goal.slice_bounds-words-end
 slice_bounds-words-end c =
-    in-room c.before
+    in_room_lem c.before
 
 pub slice_bounds-take_words-end : goal.slice_bounds-take_words-end
 slice_bounds-take_words-end c =

@@ -54,8 +54,8 @@ few c = omega (arith, (in_range_lem c.before.before).boards, c.word_number-v.ens
 cells : (c : lts.After-word_number tie.the-claims reads.Pre reads.Post) → boards c * boards c ≤ most_cells
 cells c = mul-le-mul (few c) (few c)
 
-in-room : (c : lts.After-full_room tie.the-claims reads.Pre reads.Post) → boards c.before * boards c.before ≤ length c.full_room-table.result
-in-room c = omega (arith, cells c.before, ap length c.full_room-table.ensures ∙ length-replicate most_cells full)
+in_room_lem : (c : lts.After-full_room tie.the-claims reads.Pre reads.Post) → boards c.before * boards c.before ≤ length c.full_room-table.result
+in_room_lem c = omega (arith, cells c.before, ap length c.full_room-table.ensures ∙ length-replicate most_cells full)
 
 -- these are a full table
 taken : (c : lts.After-full_room tie.the-claims reads.Pre reads.Post) → take (boards c.before * boards c.before) c.full_room-table.result ≡ filled (boards c.before)
@@ -67,7 +67,7 @@ pub overflow_mul-n : goal.overflow_mul-n
 overflow_mul-n c = record { fits = omega (arith, cells c.before) }
 
 pub slice_bounds-table-end : goal.slice_bounds-table-end
-slice_bounds-table-end c = in-room c.before.before
+slice_bounds-table-end c = in_room_lem c.before.before
 
 pub slice_bounds-put_solved-end : goal.slice_bounds-put_solved-end
 slice_bounds-put_solved-end c = sym (ap length (taken c.before.before.before) ∙ filled_cells (boards c.before.before.before.before))

@@ -68,8 +68,8 @@ module _ (c : AtOther) where
 abbrev other_at : AtAllowed → AtOther
 other_at c = c.before.before
 
-allowed-there : (c : AtAllowed) → c.allowed.result ≡ true
-allowed-there c = not-false _ c.if-not-allowed.false-raw
+allowed_there : (c : AtAllowed) → c.allowed.result ≡ true
+allowed_there c = not-false _ c.if-not-allowed.false-raw
 
 -- ---- what the code leaves
 
@@ -113,7 +113,7 @@ deeper-depth-requires c =
     let going = (turn here).loop-at.invariant in
     let n = other here in (
       omega (arith, going.deep, n.later, n.inside),
-      going_closes going (token here) n c.allowed.result c.allowed.ensures (allowed-there allowed),
+      going_closes going (token here) n c.allowed.result c.allowed.ensures (allowed_there allowed),
     )
 
 pub loop-at-smaller : goal.loop-at-smaller
@@ -124,6 +124,6 @@ loop-at-preserved c =
     let allowed : AtAllowed = c.before.before.before.before.before.before.before.before.before.before in
     let here = other_at allowed in
     let going = (turn here).loop-at.invariant in
-    going_on going (token here) (other here) c.allowed.result c.allowed.ensures (allowed-there allowed)
+    going_on going (token here) (other here) c.allowed.result c.allowed.ensures (allowed_there allowed)
     (c.codes-1.given ∙ going.codes_room) (c.depths-1.given ∙ going.depths_room)
     c.keep-count.ensures c.deeper-depth.ensures c.expects-expected.ensures

@@ -57,8 +57,8 @@ module _ (c : AtPanel) where
   room-later =
       fits_rest (first panel-read) (later panel-read) (fits_as (pieces panel-read) (start panel-read).requires.1) c.put_panel-begun.ensures
 
-abbrev ways-panel : AtWays → AtPanel
-ways-panel c = c.before.before.before.before.before
+abbrev ways_panel : AtWays → AtPanel
+ways_panel c = c.before.before.before.before.before
 
 -- ---- what the code leaves
 
@@ -72,13 +72,13 @@ put_ways-listed-requires c =
 pub put_text-requires : goal.put_text-requires
 put_text-requires c =
     let here = c.before.before.before.before.before.before in
-    let panel = ways-panel here in
+    let panel = ways_panel here in
     fits_rest (ways (panel-read panel)) closed_text (room-later panel) c.put_ways-listed.ensures
 
 pub returns : goal.returns
 returns c =
     let here = c.before.before.before.before.before.before.before.before.before in
-    let panel = ways-panel here in
+    let panel = ways_panel here in
     let read = panel-read panel in
     record {
       word = omega (arith, read.word_number-end.ensures);

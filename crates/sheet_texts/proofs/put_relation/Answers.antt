@@ -61,8 +61,8 @@ module _ (c : AtNumber) where
   room-later =
       fits_rest (first number_read) (later number_read) (fits_as (pieces number_read) (start number_read).requires.1) c.put_number-begun.ensures
 
-abbrev expression-number : AtExpression → AtNumber
-expression-number c = c.before.before.before.before
+abbrev expression_number : AtExpression → AtNumber
+expression_number c = c.before.before.before.before
 
 -- ---- what the code leaves
 
@@ -78,14 +78,14 @@ put_expression-related-requires c =
 pub put_last-ended-requires : goal.put_last-ended-requires
 put_last-ended-requires c =
     let here = c.before.before.before.before in
-    let number = expression-number here in
+    let number = expression_number here in
     let read = number_read number in
     fits_rest (expression read) (last read) (room-later number) c.put_expression-related.ensures.text
 
 pub returns : goal.returns
 returns c =
     let here = c.before.before.before.before.before.before.before in
-    let number = expression-number here in
+    let number = expression_number here in
     let read = number_read number in
     record {
       word = omega (arith, c.put_expression-related.ensures.word, expression_words (start read).requires.0);

@@ -64,11 +64,11 @@ returns-then-number-ge-BOARDS c =
 -- ---- the end
 
 -- the place after the number
-number-end : (c : lts.Else2 tie.the-claims reads.Pre reads.Post) → (count c.before.before).next ≤ length (line (before2 c.before.before))
-number-end c = (some_read _ _ _ (second c.before.before) (λ e. omega (arith, c.if-number-ge-BOARDS.false))).inside
+number_end : (c : lts.Else2 tie.the-claims reads.Pre reads.Post) → (count c.before.before).next ≤ length (line (before2 c.before.before))
+number_end c = (some_read _ _ _ (second c.before.before) (λ e. omega (arith, c.if-number-ge-BOARDS.false))).inside
 
 pub symbol_at-end-requires : goal.symbol_at-end-requires
-symbol_at-end-requires c = number-end c.before
+symbol_at-end-requires c = number_end c.before
 
 -- the second symbol, seen from the third
 abbrev before3 : lts.After-symbol_at3 tie.the-claims reads.Pre reads.Post → lts.After-symbol_at2 tie.the-claims reads.Pre reads.Post
@@ -76,7 +76,7 @@ before3 c = c.before.before.before
 
 -- what the third symbol says of the line
 third : (c : lts.After-symbol_at3 tie.the-claims reads.Pre reads.Post) → Stepped (line (before2 (before3 c))) (count (before3 c)).next c.symbol_at-end.result
-third c = stepped (line (before2 (before3 c))) (count (before3 c)).next (number-end c.before) c.symbol_at-end.ensures
+third c = stepped (line (before2 (before3 c))) (count (before3 c)).next (number_end c.before) c.symbol_at-end.ensures
 
 -- the line after the number
 numbered : (c : lts.After-symbol_at3 tie.the-claims reads.Pre reads.Post)

@@ -38,11 +38,11 @@ returns-then-number-ge-BOARDS c =
 -- ---- the symbol after it
 
 -- the place after the board
-board-end : (c : lts.Else1 tie.the-claims reads.Pre reads.Post) → (board c.before).next ≤ length (line c.before)
-board-end c = (some_read _ _ _ (first c.before) (λ e. omega (arith, c.if-number-ge-BOARDS.false))).inside
+board_end : (c : lts.Else1 tie.the-claims reads.Pre reads.Post) → (board c.before).next ≤ length (line c.before)
+board_end c = (some_read _ _ _ (first c.before) (λ e. omega (arith, c.if-number-ge-BOARDS.false))).inside
 
 pub symbol_at-mark-requires : goal.symbol_at-mark-requires
-symbol_at-mark-requires c = board-end c.before
+symbol_at-mark-requires c = board_end c.before
 
 -- the board, seen from the symbol after it
 abbrev start : lts.After-symbol_at2 tie.the-claims reads.Pre reads.Post → lts.After-symbol_at tie.the-claims reads.Pre reads.Post
@@ -50,7 +50,7 @@ start c = c.before.before
 
 -- what the second symbol says of the line
 second : (c : lts.After-symbol_at2 tie.the-claims reads.Pre reads.Post) → Stepped (line (start c)) (board (start c)).next c.symbol_at-mark.result
-second c = stepped (line (start c)) (board (start c)).next (board-end c.before) c.symbol_at-mark.ensures
+second c = stepped (line (start c)) (board (start c)).next (board_end c.before) c.symbol_at-mark.ensures
 
 -- the line after its board
 placed : (c : lts.After-symbol_at2 tie.the-claims reads.Pre reads.Post)
@@ -75,7 +75,7 @@ returns-then-mark-eq-COLON c =
 -- ---- a relation line
 
 pub take_relation-requires : goal.take_relation-requires
-take_relation-requires c = (board-end c.before.before.before.before.before, search rules)
+take_relation-requires c = (board_end c.before.before.before.before.before, search rules)
 
 pub returns : goal.returns
 returns c =

@@ -74,11 +74,11 @@ pub loop-j-init : goal.loop-j-init
 loop-j-init c = (omega arith, once_start _ (first c.before).kept.table)
 
 -- the table where the way at hand is walked against all ways, and at the head of that walk
-ready-first : (c : lts.After-slice_known2 tie.the-claims reads.Pre reads.Post goal.the-invariant-loop-j goal.the-decreases-loop-j goal.the-invariant-loop-i goal.the-decreases-loop-i) → Ready (start (head c)).args.v c.narrow-struck.new.cells
-ready-first c = ready_kept (ready (head c)) (first c).kept
+ready_first : (c : lts.After-slice_known2 tie.the-claims reads.Pre reads.Post goal.the-invariant-loop-j goal.the-decreases-loop-j goal.the-invariant-loop-i goal.the-decreases-loop-i) → Ready (start (head c)).args.v c.narrow-struck.new.cells
+ready_first c = ready_kept (ready (head c)) (first c).kept
 
-ready-2 : (c : lts.At-loop2 tie.the-claims reads.Pre reads.Post goal.the-invariant-loop-j goal.the-decreases-loop-j goal.the-invariant-loop-i goal.the-decreases-loop-i) → Ready (start (head c.before)).args.v c.loop-j.cells
-ready-2 c = ready_kept (ready-first c.before) c.loop-j.invariant.1.kept
+ready_2 : (c : lts.At-loop2 tie.the-claims reads.Pre reads.Post goal.the-invariant-loop-j goal.the-decreases-loop-j goal.the-invariant-loop-i goal.the-decreases-loop-i) → Ready (start (head c.before)).args.v c.loop-j.cells
+ready_2 c = ready_kept (ready_first c.before) c.loop-j.invariant.1.kept
 
 pub overflow_mul-l : goal.overflow_mul-l
 overflow_mul-l c =
@@ -102,7 +102,7 @@ overflow_add-l c =
 pub narrow-struck-requires-in-loop-j : goal.narrow-struck-requires-in-loop-j
 narrow-struck-requires-in-loop-j c =
     let hand = c.before.before.before.before.before.before.before.before.before.before.before in
-    let table = ready-2 c.before.before.before.before.before in (
+    let table = ready_2 c.before.before.before.before.before in (
       ready_place table (board hand) (other c.before.before.before),
       table.table.small _,
       subst (λ (x : ℕ). x < set_limit) (sym c.apart.ensures) (apart_small c.loop-i.i c.loop-j.j),
@@ -115,14 +115,14 @@ loop-j-preserved c =
     let held = c.before.before.before.before.before.before in (
       omega arith,
       beside_next (whole c.before.before.before.before.before.before.before.before.before.before.before.before.before.before.before.before) c.loop-i.i c.loop-j.j c.loop-j.invariant.1 c.way-y.ensures
-          c.way.ensures c.apart.ensures (ready_place (ready-2 inner) (board hand) (other held))
+          c.way.ensures c.apart.ensures (ready_place (ready_2 inner) (board hand) (other held))
           c.narrow-struck-in-loop-j.ensures,
     )
 
 pub overflow_add-struck-in-loop-j : goal.overflow_add-struck-in-loop-j
 overflow_add-struck-in-loop-j c =
     let begun = c.before.before.before.before.before.before.before.before.before in
-    record { fits = omega (arith, few begun, kept_few (ready-first begun) (loop-j-preserved c).1.kept) }
+    record { fits = omega (arith, few begun, kept_few (ready_first begun) (loop-j-preserved c).1.kept) }
 
 pub loop-j-smaller : goal.loop-j-smaller
 loop-j-smaller c = omega arith

@@ -1,6 +1,5 @@
 -- `relation_line` meets its contract: a good line's expression is found with its set. Assumes nothing.
 use mathlib.Core.Path.{◌≡◌, sym, ap, ◌∙◌}
-use mathlib.Core.Logic.{⊎_elim}
 use Prim.Native.Nat.{ℕ, ◌+◌, ◌-◌}
 use native.Mathlib.Omega.{arith}
 use lib.ListN.{get_or, drop, length-drop}
@@ -12,6 +11,7 @@ use Rattle.lines.proofs.relation_line.Tie as tie
 use Rattle.lines.proofs.relation_line.Lts as lts
 use Rattle.lines.proofs.relation_line.Reads as reads
 use Rattle.lines.proofs.relation_line.Goals as goal
+use Rattle.lines.proofs.relation_line.Goals.{in-Set, in-Malformed}
 
 pub bounds-words-2 : goal.bounds-words-2
 bounds-words-2 c = omega (arith, (good_passed c.requires).fits.three)
@@ -46,4 +46,4 @@ returns c v f read =
     let ends : 3 + c.word_number-end.result ≡ 3 + get_or c.args.words.now 2 0 = ap (λ (n : ℕ). 3 + n) c.word_number-end.ensures in
     let set = c.evaluate.ensures ∙ good_set v _ read ends in
     good_found v _ read ends c.word_number.ensures c.word_number-2.ensures
-    (⊎_elim (λ (k, x, t, e). let s = sym x.given.1 ∙ set in e ∙ cc) (λ (k, t, e). let s = sym t.given.1 ∙ set in clash (cc)) c.match.branch)
+    (elim c.match-evaluate.branch [ in-Set w ↦ let s = sym w.in-Set.is ∙ set in cc | in-Malformed w ↦ let s = sym w.in-Malformed.is ∙ set in clash (cc) ])

@@ -54,7 +54,7 @@ returns-then-x-ne-A c =
     let pre = c.requires in
     let first = c.reaching-i.ensures in
     let found = reaching_inner first c.if-i-ways.false in
-    (elim c.then-x-ne-A.branch [ then-x-ne-A-via-then-x-ne-A w ↦ rule6_at_more _ _ _ pre.0 pre.1 pre.2.board pre.3 first found w.if-x-ne-A.true | then-x-ne-A-via-else-x-ne-A+then-reaching-ways w ↦ rule6_at_two _ _ _ pre.0 pre.1 pre.2.board pre.3 first found w.2.ensures (ltb-true _ _ w.3.taken) ])
+    (elim c.then-x-ne-A.branch [ then-x-ne-A-via-then-x-ne-A w ↦ rule6_at_more _ _ _ pre.0 pre.1 pre.2.board pre.3 first found w.if-x-ne-A.true | then-x-ne-A-via-else-x-ne-A+then-reaching-ways w ↦ rule6_at_two _ _ _ pre.0 pre.1 pre.2.board pre.3 first found w.reaching.ensures (ltb-true _ _ w.if-reaching-ways.true-raw) ])
 
 -- the way is a board
 board : (c : lts.After-way tie.the-claims reads.Pre reads.Post)

@@ -57,7 +57,7 @@ returns-then-line-other c =
     let start = c.before.before.before.before.before.before.before.before.before.before.before.before.before.before.before.before.before.before.before.before.before in
     let (table, marks, line, other, same) = c.requires in
     rule7_struck c.args.v (one start) (two start) c.args.cells.now c.args.marks.now _ _ table marks line.board other.board
-    (λ alike each. (elim c.then-line-other.branch [ then-line-other-via-then-line-other w ↦ omega (arith, w.if-line-other.true, alike.0) | then-line-other-via-else-line-other+then-not-ways_match w ↦ clash (cc (not-true w.2.result w.3.taken, w.2.ensures)) ])) _ c.strike.ensures
+    (λ alike each. (elim c.then-line-other.branch [ then-line-other-via-then-line-other w ↦ omega (arith, w.if-line-other.true, alike.0) | then-line-other-via-else-line-other+then-not-ways_match w ↦ clash (cc (not-true w.ways_match.result w.if-not-ways_match.true-raw, w.ways_match.ensures)) ])) _ c.strike.ensures
 
 -- where the codes are one and each two ways may be the same
 module _ (c : lts.Else3 tie.the-claims reads.Pre reads.Post) where

@@ -3,7 +3,6 @@
 use Rattle.std.specs.Prelude.{◌≡◌, List, [], ◌∷◌, ◌++◌, ℕ, suc, length, replicate}
 use Prim.Native.Char.{code}
 use Prim.Native.String.{String}
-use Prim.Native.String as String
 use Rattle.rules.specs.Calls.{refuse, succeed}
 use Rattle.typed.specs.Calls.{from_text, to_text}
 

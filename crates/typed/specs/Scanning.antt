@@ -2,7 +2,7 @@
 -- line once, with a count of open parentheses and whether an operand is expected, and keeps each word with the depth at which it stands; of these the
 -- expression is built, by the word that binds loosest.
 -- Assumes nothing.
-use Rattle.std.specs.Prelude.{Bool, true, false, not, ◌&&◌, ◌||◌, List, [], ◌∷◌, ◌++◌, ℕ, zero, suc, ◌+◌, nat_le, nat_lt, nat_eq, length, slice_index_or, take, drop}
+use Rattle.std.specs.Prelude.{Bool, true, false, not, ◌&&◌, ◌||◌, List, [], ◌∷◌, ◌++◌, ℕ, zero, suc, nat_le, nat_lt, nat_eq, length, slice_index_or, take, drop}
 use Rattle.typed.specs.Symbols.{Symbol, boards, colon, left_paren, right_paren, unknown, word, number}
 
 -- ---- words at their depth

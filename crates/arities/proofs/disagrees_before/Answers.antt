@@ -1,5 +1,4 @@
 -- `disagrees_before` meets its contract: what was found is whether the line disagrees with one passed. The measure is the lines left. Assumes nothing.
-use Prim.Native.Nat.{◌-◌}
 use native.Mathlib.Omega.{arith}
 use Rattle.arities.proofs.Comparing.{compared_start, compared_there, compared_within, compared_next, compared_end}
 use Rattle.arities.proofs.disagrees_before.Goals as goal

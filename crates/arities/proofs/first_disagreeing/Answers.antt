@@ -1,7 +1,7 @@
 -- `first_disagreeing` meets its contract: the lines passed are of one arity, until the first that disagrees with one of them is found. The measure is
 -- the lines left. Assumes nothing.
 use mathlib.Core.Path.{sym, subst₂}
-use Prim.Native.Nat.{ℕ, ◌+◌, ◌-◌}
+use Prim.Native.Nat.{ℕ, ◌+◌}
 use native.Mathlib.Omega.{arith}
 use Rattle.arities.proofs.Comparing.{Sought, sought_start, sought_few, sought_there, sought_within, sought_before, sought_found, sought_next, sought_end}
 use Rattle.arities.proofs.first_disagreeing.Goals as goal

@@ -1,6 +1,6 @@
 -- `index` meets its contract: the lines passed are told, and the next begins at `at`. The measure is the lines left. Assumes nothing.
 use mathlib.Core.Path.{◌≡◌, refl, subst}
-use Prim.Native.Nat.{ℕ, ◌-◌}
+use Prim.Native.Nat.{ℕ}
 use native.Mathlib.Omega.{arith}
 use Rattle.by_board.specs.Found.{start_of, Indexed}
 use Rattle.by_board.proofs.Telling.{indexed_none}

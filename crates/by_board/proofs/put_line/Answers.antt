@@ -1,7 +1,7 @@
 -- `put_line` meets its contract: the line is told by panel and by the ways passed. The measure is the ways left. Assumes nothing.
 use mathlib.Core.Path.{sym, ap, ◌∙◌, subst}
 use mathlib.Core.List.{List}
-use Prim.Native.Nat.{ℕ, ◌+◌, ◌-◌, ◌<◌}
+use Prim.Native.Nat.{ℕ, ◌+◌, ◌<◌}
 use native.Mathlib.Omega.{arith}
 use borrow.Author.Rules.{rules}
 use lib.ListN.{length, length-set}
@@ -40,12 +40,11 @@ pub slice_bounds-ways-end : goal.slice_bounds-ways-end
 slice_bounds-ways-end c = let s = stands c.before in search rules
 
 pub loop-i-init : goal.loop-i-init
-loop-i-init c =
-    (
-      omega arith,
-      subst (Turn c.args.words.now c.args.n 0)
-          (sym c.put.ensures) (line_panel c.requires.0 c.kind_at-line.ensures c.requires.1),
-    )
+loop-i-init c = (
+  omega arith,
+  subst (Turn c.args.words.now c.args.n 0)
+      (sym c.put.ensures) (line_panel c.requires.0 c.kind_at-line.ensures c.requires.1),
+)
 
 pub way-y-requires : goal.way-y-requires
 way-y-requires c = c.loop-i-test.true

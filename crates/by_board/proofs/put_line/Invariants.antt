@@ -1,4 +1,4 @@
-use Prim.Native.Nat.{◌-◌, ◌≤◌}
+use Prim.Native.Nat.{◌≤◌}
 use lib.ListN.{length}
 use Rattle.by_board.proofs.Placing.{Turn}
 use Rattle.by_board.proofs.put_line.Given as goal

@@ -1,7 +1,7 @@
 -- `scan` meets its contract: of the words from each place on, as many expressions are needed as tell of them what is told of all the words. There are never more
 -- needed than words passed and one. The measure is the words left. Assumes nothing.
 use mathlib.Core.Path.{sym, ◌∙◌}
-use Prim.Native.Nat.{◌+◌, ◌-◌, ◌<◌}
+use Prim.Native.Nat.{◌<◌}
 use native.Mathlib.Omega.{arith}
 use lib.ListN.{length}
 use Rattle.rules.specs.Expressions.{codes}

@@ -1,6 +1,5 @@
 -- `boards_before` meets its contract: each word that was passed is a board. The measure is what is left of the words. Assumes nothing.
 use mathlib.Core.Path.{◌≡◌, sym, ◌∙◌}
-use Prim.Native.Nat.{◌-◌}
 use native.Mathlib.Omega.{arith}
 use borrow.Author.Count.{below_more}
 use lib.ListN.{length}

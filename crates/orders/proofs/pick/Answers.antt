@@ -1,7 +1,7 @@
 -- `pick` meets its contract: what is picked is picked from the place that the walk along the order has come to. The measure is what is left of the
 -- order. Assumes nothing.
 use mathlib.Core.Path.{refl, sym, ap, ◌∙◌, subst}
-use Prim.Native.Nat.{ℕ, ◌-◌, ◌<◌}
+use Prim.Native.Nat.{ℕ, ◌<◌}
 use native.Mathlib.Omega.{arith}
 use Rattle.rules.specs.Relations.{set_limit, meet}
 use Rattle.rules.proofs.Sets.{single_small}

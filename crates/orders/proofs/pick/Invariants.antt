@@ -1,4 +1,3 @@
-use Prim.Native.Nat.{◌-◌}
 use Rattle.orders.proofs.Picking.{From}
 use Rattle.orders.proofs.pick.Given as goal
 

@@ -20,12 +20,11 @@ returns-then-n-lt10 t c =
     subst (λ (xs : List ℕ). Put c.args.text.now c.args.at xs c.put_byte.new.text c.put_byte.result) (sym e) c.put_byte.ensures
 
 pub put_number-next-requires : goal.put_number-next-requires
-put_number-next-requires t c =
-    (
-      omega (arith, c.decreases, c.if-n-lt10.false),
-      fits_first (decimal (c.args.n / 10)) (last_digit c.args.n ∷ [])
-          (subst (HasRoom c.args.text.now c.args.at) (decimal_more c.args.n (omega (arith, c.if-n-lt10.false))) c.requires),
-    )
+put_number-next-requires t c = (
+  omega (arith, c.decreases, c.if-n-lt10.false),
+  fits_first (decimal (c.args.n / 10)) (last_digit c.args.n ∷ [])
+      (subst (HasRoom c.args.text.now c.args.at) (decimal_more c.args.n (omega (arith, c.if-n-lt10.false))) c.requires),
+)
 
 pub put_byte-requires-2 : goal.put_byte-requires-2
 put_byte-requires-2 t c =

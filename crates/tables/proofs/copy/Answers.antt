@@ -1,6 +1,5 @@
 -- `copy` meets its contract: the cells passed are copied. The measure is the cells left. Assumes nothing.
 use mathlib.Core.Path.{refl}
-use Prim.Native.Nat.{◌-◌}
 use native.Mathlib.Omega.{arith}
 use Rattle.passes.proofs.Cells.{laid_none, laid_more, laid_all}
 use Rattle.tables.proofs.copy.Goals as goal

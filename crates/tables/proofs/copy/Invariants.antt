@@ -1,4 +1,3 @@
-use Prim.Native.Nat.{◌-◌}
 use Rattle.passes.proofs.Cells.{Laid}
 use Rattle.tables.proofs.copy.Given as goal
 

@@ -1,6 +1,6 @@
 -- `members` meets its contract: the relations of the cells passed are counted. The measure is the cells left. Assumes nothing.
 use mathlib.Core.Path.{sym, ◌∙◌}
-use Prim.Native.Nat.{◌+◌, ◌-◌}
+use Prim.Native.Nat.{◌+◌}
 use native.Mathlib.Omega.{arith}
 use Rattle.rules.specs.Relations.{relations}
 use Rattle.rules.specs.Descriptions.{most_cells}

@@ -1,6 +1,6 @@
 -- `sets_only` meets its contract: what it tells is true of the cells passed. The measure is the cells left. Assumes nothing.
 use mathlib.Core.Path.{sym, subst}
-use Prim.Native.Nat.{◌+◌, ◌-◌}
+use Prim.Native.Nat.{◌+◌}
 use native.Mathlib.Omega.{arith}
 use Rattle.tables.proofs.Shapes.{SetsTo, sets_start, sets_more, sets_not, sets_told}
 use Rattle.tables.proofs.sets_only.Goals as goal

@@ -1,4 +1,4 @@
-use Prim.Native.Nat.{◌-◌, ◌≤◌}
+use Prim.Native.Nat.{◌≤◌}
 use lib.ListN.{length}
 use Rattle.tables.proofs.Shapes.{SetsTo}
 use Rattle.tables.proofs.sets_only.Given as goal

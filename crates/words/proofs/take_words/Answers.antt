@@ -1,6 +1,6 @@
 -- `take_words` meets its contract: the words passed are taken. The measure is the words left. Assumes nothing.
 use mathlib.Core.Path.{◌≡◌, sym}
-use Prim.Native.Nat.{ℕ, ◌+◌, ◌*◌, ◌-◌, ◌<◌}
+use Prim.Native.Nat.{ℕ, ◌+◌, ◌*◌, ◌<◌}
 use native.Mathlib.Omega.{arith}
 use lib.ListN.{length, get_or}
 use Rattle.passes.proofs.Cells.{laid_none, laid_more, laid_all}

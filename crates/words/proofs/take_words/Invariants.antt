@@ -1,4 +1,3 @@
-use Prim.Native.Nat.{◌-◌}
 use Rattle.passes.proofs.Cells.{Laid}
 use Rattle.words.specs.Words.{words}
 use Rattle.words.proofs.take_words.Given as goal

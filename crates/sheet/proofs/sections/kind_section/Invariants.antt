@@ -1,4 +1,3 @@
-use Prim.Native.Nat.{◌-◌}
 use Rattle.rules.specs.Descriptions.{kind_line}
 use Rattle.rules.proofs.Walks.{Walk}
 use Rattle.sheet.proofs.sections.kind_section.Given as goal

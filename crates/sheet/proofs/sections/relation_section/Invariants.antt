@@ -1,4 +1,3 @@
-use Prim.Native.Nat.{◌-◌}
 use Rattle.rules.specs.Descriptions.{relation_line}
 use Rattle.rules.proofs.Walks.{Walk}
 use Rattle.sheet.proofs.sections.relation_section.Given as goal

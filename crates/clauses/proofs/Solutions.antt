@@ -10,7 +10,7 @@ use native.Mathlib.Nat.{suc_inj}
 use native.Mathlib.Omega.{arith}
 use lib.Dec.{T, eqb, eqb→eq, eqb_refl}
 use lib.ListN.{length, get_or, length-map}
-use Rattle.rules.specs.Relations.{relations, below, side, set_limit, E, A, B, S, has, ◌lies_within◌, opposite, converse, composed, compose}
+use Rattle.rules.specs.Relations.{relations, below, set_limit, E, A, B, S, has, ◌lies_within◌, opposite, converse, composed, compose}
 use Rattle.rules.specs.Expressions.{denoted}
 use Rattle.rules.specs.Descriptions.{RelationLine, KindLine, WellFormed}
 use Rattle.rules.specs.Tables.{cell}

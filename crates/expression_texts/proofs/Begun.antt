@@ -12,7 +12,7 @@ use Rattle.rules.specs.Expressions.{Phrase, written}
 use Rattle.typed.specs.Symbols.{word}
 use Rattle.typed.specs.Writing.{typing, phrase_of, spaced}
 use Rattle.expression_texts.specs.Puts.{Begins, extent, bytes, marked}
-use Rattle.expression_texts.proofs.Shapes.{Shape, name, one, two, shape, phrase_of_front, text, text_one, text_cons, text_joined}
+use Rattle.expression_texts.proofs.Shapes.{Shape, name, one, two, shape, phrase_of_front, text_one, text_cons, text_joined}
 
 -- the word at a place, and the words after it
 record At (ws : List ℕ) (at w : ℕ) (us : List ℕ) : Type 0 where

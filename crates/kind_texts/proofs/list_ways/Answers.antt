@@ -1,6 +1,5 @@
 -- `list_ways` meets its contract: the ways passed are kept and counted. The measure is what is left of the line. Assumes nothing.
 use mathlib.Core.Path.{◌∙◌}
-use Prim.Native.Nat.{◌-◌}
 use native.Mathlib.Omega.{arith}
 use Rattle.symbols.proofs.Steps.{Stepped, stepped}
 use Rattle.kind_texts.proofs.Moves.{Later, some_read}

@@ -1,4 +1,3 @@
-use Prim.Native.Nat.{◌-◌}
 use lib.ListN.{length, replicate}
 use Rattle.passes.proofs.Cells.{Laid}
 use Rattle.moves.proofs.clear.Given as goal

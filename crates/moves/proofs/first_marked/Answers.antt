@@ -1,5 +1,4 @@
 -- `first_marked` meets its contract: the words passed are 0. The measure is the boards left. Assumes nothing.
-use Prim.Native.Nat.{◌-◌}
 use native.Mathlib.Omega.{arith}
 use borrow.Author.Count.{below_none, below_more}
 use Rattle.moves.proofs.first_marked.Goals as goal

@@ -1,5 +1,4 @@
 -- `rules1` meets its contract: each turn is one strike by a bound that stays. The measure is the boards left. Assumes nothing.
-use Prim.Native.Nat.{◌-◌}
 use native.Mathlib.Omega.{arith}
 use Rattle.rules.specs.Relations.{relations}
 use Rattle.rules.specs.Closing.{rules1}

@@ -1,4 +1,3 @@
-use Prim.Native.Nat.{◌-◌}
 use Rattle.rules.specs.Descriptions.{relation_line}
 use Rattle.rules.specs.Closing.{rule4}
 use Rattle.passes.specs.Passes.{Once}

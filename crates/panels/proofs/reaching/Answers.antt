@@ -1,5 +1,5 @@
 -- `reaching` meets its contract: no way of the places that were passed reaches the board. The measure is the ways left. Assumes nothing.
-use Prim.Native.Nat.{◌-◌, ◌<◌}
+use Prim.Native.Nat.{◌<◌}
 use native.Mathlib.Omega.{arith}
 use Rattle.passes.proofs.Passes.{place_few, ready_place}
 use Rattle.panels.proofs.Feeding.{passed_none, passed_all, passed_found, passed_more}

@@ -1,6 +1,5 @@
 -- `rule6_bare` meets its contract: the rule is seen to towards the boards that were passed. The measure is the boards left. Assumes nothing.
 use mathlib.Core.Path.{◌≡◌, subst}
-use Prim.Native.Nat.{◌-◌}
 use native.Mathlib.Omega.{arith}
 use Rattle.rules.specs.Descriptions.{KindLine}
 use Rattle.rules.specs.Arrangements.{width}

@@ -1,5 +1,4 @@
 -- `rule6_without_ways` meets its contract: the rule is seen to for the kind lines that were passed. The measure is the lines left. Assumes nothing.
-use Prim.Native.Nat.{◌-◌}
 use native.Mathlib.Omega.{arith}
 use Rattle.moves.proofs.Passing.{counting_none, counting_lost, counting_next}
 use Rattle.panels.proofs.Visiting.{steady_bare, bare_all}

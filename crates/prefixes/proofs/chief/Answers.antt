@@ -1,6 +1,6 @@
 -- `chief` meets its contract: it keeps the loosest of the words passed. The measure is the words left. Assumes nothing.
 use mathlib.Core.Path.{sym, ap, ◌∙◌}
-use Prim.Native.Nat.{ℕ, ◌+◌, ◌-◌}
+use Prim.Native.Nat.{ℕ, ◌+◌}
 use native.Mathlib.Omega.{arith}
 use Rattle.prefixes.proofs.Items.{chief_of, chief_first, chief_next, chief_last, looser_within}
 use Rattle.prefixes.proofs.chief.Goals as goal

@@ -4,6 +4,7 @@ use mathlib.Core.Path.{refl, subst}
 use native.Mathlib.Omega.{arith}
 use borrow.Author.Tests.{not-true, not-false}
 use Rattle.moves.specs.Moves.{marks, FirstMarked, Went}
+use Rattle.rounds.specs.Rounds.{Seen}
 use Rattle.rounds.proofs.Draining.{on_boards, draining_start, draining_end, first_board, first_word, first_on, first_other, first_list, draining_more, draining_less, draining_apart, draining_lost}
 use Rattle.rounds.proofs.drain.Goals as goal
 
@@ -65,18 +66,18 @@ revisit-requires c =
 pub returns-then-not-revisit : goal.returns-then-not-revisit
 returns-then-not-revisit c =
     λ ks e.
-    draining_lost (c.loop-entries.invariant ks e) (subst (Went _ _ _ _ _ _ _) (not-true c.revisit.result c.if-not-revisit.true-raw) (c.revisit.ensures ks e))
+    draining_lost (c.loop-entries.invariant ks e) (subst (Went _ _ (Seen c.args.v ks c.first_marked-p.result c.lowest-q.result) _ _ _ _) (not-true c.revisit.result c.if-not-revisit.true-raw) (c.revisit.ensures ks e))
 
 pub loop-entries-smaller : goal.loop-entries-smaller
 loop-entries-smaller c =
     let pre = c.requires in
     let has = pre.0.listed.lines.0 in
     draining_less (c.loop-entries.invariant has.0 has.1) pre.0.table.ready.boards c.first_marked-p.ensures c.if-p-v.false c.lowest-q.ensures _ c.without.ensures
-    (subst (Went _ _ _ _ _ _ _) (not-false c.revisit.result c.if-not-revisit.false-raw) (c.revisit.ensures has.0 has.1)).0
+    (subst (Went _ _ (Seen c.args.v has.0 c.first_marked-p.result c.lowest-q.result) _ _ _ _) (not-false c.revisit.result c.if-not-revisit.false-raw) (c.revisit.ensures has.0 has.1)).0
 
 pub loop-entries-preserved : goal.loop-entries-preserved
 loop-entries-preserved c =
     λ ks e.
-    let went = subst (Went _ _ _ _ _ _ _) (not-false c.revisit.result c.if-not-revisit.false-raw) (c.revisit.ensures ks e) in
+    let went = subst (Went _ _ (Seen c.args.v ks c.first_marked-p.result c.lowest-q.result) _ _ _ _) (not-false c.revisit.result c.if-not-revisit.false-raw) (c.revisit.ensures ks e) in
     draining_more (c.loop-entries.invariant ks e) c.requires.0.table.ready.boards c.first_marked-p.ensures c.if-p-v.false c.lowest-q.ensures _ c.without.ensures went.0
     (on_boards c.args.v c.args.count c.args.words.now ks e) went.1

@@ -23,24 +23,24 @@ pub through-requires : goal.through-requires
 through-requires c = let pre = c.requires in (pre.1, pre.0.table, pre.0.list, pre.2, pre.3)
 
 pub returns-then-not-through : goal.returns-then-not-through
-returns-then-not-through c = λ ks e. lost_as (again_three _ ks) (subst (Went _ _ _ _ _ _ _) (not-true c.through.result c.if-not-through.true-raw) c.through.ensures)
+returns-then-not-through c = λ ks e. lost_as (again_three _ ks) (subst (Went _ _ (ThroughBoth c.args.v c.args.p c.args.q) _ _ _ _) (not-true c.through.result c.if-not-through.true-raw) c.through.ensures)
 
 pub returns-then-count-eq0 : goal.returns-then-count-eq0
 returns-then-count-eq0 c =
     λ ks e.
-    let went = (subst (Went _ _ _ _ _ _ _) (not-false c.through.result c.if-not-through.false-raw) c.through.ensures) in
+    let went = (subst (Went _ _ (ThroughBoth c.args.v c.args.p c.args.q) _ _ _ _) (not-false c.through.result c.if-not-through.false-raw) c.through.ensures) in
     all_seen went.0 went.1 (moved_none went.0.fit went.0.list)
     (lines_none c.args.v c.args.count c.args.words.now ks e c.if-count-eq0.true c.args.p c.args.q _ _)
 
 pub revisit_lines-requires : goal.revisit_lines-requires
 revisit_lines-requires c =
     let pre = c.requires in
-    let went = (subst (Went _ _ _ _ _ _ _) (not-false c.through.result c.if-not-through.false-raw) c.through.ensures) in
+    let went = (subst (Went _ _ (ThroughBoth c.args.v c.args.p c.args.q) _ _ _ _) (not-false c.through.result c.if-not-through.false-raw) c.through.ensures) in
     (moved_site pre.0.listed went.0, pre.2, pre.3, λ ks e k a l b. apart_moved went.0 k l (pre.4 ks e k a l b))
 
 pub returns : goal.returns
 returns c =
     λ ks e.
-    let went = (subst (Went _ _ _ _ _ _ _) (not-false c.through.result c.if-not-through.false-raw) c.through.ensures) in
+    let went = (subst (Went _ _ (ThroughBoth c.args.v c.args.p c.args.q) _ _ _ _) (not-false c.through.result c.if-not-through.false-raw) c.through.ensures) in
     let lines = c.revisit_lines in
     last ks lines.new.cells lines.new.marks lines.result went.0 went.1 (lines.ensures ks e)

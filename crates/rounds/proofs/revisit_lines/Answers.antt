@@ -25,37 +25,37 @@ pub rule6_for-requires : goal.rule6_for-requires
 rule6_for-requires c = let pre = c.requires in (pre.0, pre.1, pre.2)
 
 pub returns-then-not-rule6_for : goal.returns-then-not-rule6_for
-returns-then-not-rule6_for c = λ ks e. lost_as (again_six _ ks) (subst (Went _ _ _ _ _ _ _) (not-true c.rule6_for.result c.if-not-rule6_for.true-raw) (c.rule6_for.ensures ks e))
+returns-then-not-rule6_for c = λ ks e. lost_as (again_six _ ks) (subst (Went _ _ (FedFor c.args.v ks c.args.p c.args.q) _ _ _ _) (not-true c.rule6_for.result c.if-not-rule6_for.true-raw) (c.rule6_for.ensures ks e))
 
 pub rule6_for-requires-2 : goal.rule6_for-requires-2
 rule6_for-requires-2 c =
     let pre = c.requires in
     let has = pre.0.listed.lines.0 in
-    let went = (subst (Went _ _ _ _ _ _ _) (not-false c.rule6_for.result c.if-not-rule6_for.false-raw) (c.rule6_for.ensures has.0 has.1)) in
+    let went = (subst (Went _ _ (FedFor c.args.v has.0 c.args.p c.args.q) _ _ _ _) (not-false c.rule6_for.result c.if-not-rule6_for.false-raw) (c.rule6_for.ensures has.0 has.1)) in
     (moved_site pre.0.listed went.0, pre.2, pre.1)
 
 pub returns-then-not-rule6_for-2 : goal.returns-then-not-rule6_for-2
 returns-then-not-rule6_for-2 c =
     λ ks e.
-    lost_then (moved_as (again_six _ ks) (subst (Went _ _ _ _ _ _ _) (not-false c.rule6_for.result c.if-not-rule6_for.false-raw) (c.rule6_for.ensures ks e)).0)
-    (lost_as (again_six _ ks) (subst (Went _ _ _ _ _ _ _) (not-true c.rule6_for-2.result c.if-not-rule6_for-2.true-raw) (c.rule6_for-2.ensures ks e)))
+    lost_then (moved_as (again_six _ ks) (subst (Went _ _ (FedFor c.args.v ks c.args.p c.args.q) _ _ _ _) (not-false c.rule6_for.result c.if-not-rule6_for.false-raw) (c.rule6_for.ensures ks e)).0)
+    (lost_as (again_six _ ks) (subst (Went _ _ (FedFor c.args.v ks c.args.q c.args.p) _ _ _ _) (not-true c.rule6_for-2.result c.if-not-rule6_for-2.true-raw) (c.rule6_for-2.ensures ks e)))
 
 pub rule7_for-requires : goal.rule7_for-requires
 rule7_for-requires c =
     let pre = c.requires in
     let has = pre.0.listed.lines.0 in
-    let second = (subst (Went _ _ _ _ _ _ _) (not-false c.rule6_for-2.result c.if-not-rule6_for-2.false-raw) (c.rule6_for-2.ensures has.0 has.1)) in (
+    let second = (subst (Went _ _ (FedFor c.args.v has.0 c.args.q c.args.p) _ _ _ _) (not-false c.rule6_for-2.result c.if-not-rule6_for-2.false-raw) (c.rule6_for-2.ensures has.0 has.1)) in (
       moved_site pre.0.listed second.0,
       pre.1,
       pre.2,
       λ ks e k a l b.
-          apart_moved (subst (Went _ _ _ _ _ _ _) (not-false c.rule6_for-2.result c.if-not-rule6_for-2.false-raw) (c.rule6_for-2.ensures ks e)).0 k l
-          (apart_moved (subst (Went _ _ _ _ _ _ _) (not-false c.rule6_for.result c.if-not-rule6_for.false-raw) (c.rule6_for.ensures ks e)).0 k l (pre.3 ks e k a l b)),
+          apart_moved (subst (Went _ _ (FedFor c.args.v ks c.args.q c.args.p) _ _ _ _) (not-false c.rule6_for-2.result c.if-not-rule6_for-2.false-raw) (c.rule6_for-2.ensures ks e)).0 k l
+          (apart_moved (subst (Went _ _ (FedFor c.args.v ks c.args.p c.args.q) _ _ _ _) (not-false c.rule6_for.result c.if-not-rule6_for.false-raw) (c.rule6_for.ensures ks e)).0 k l (pre.3 ks e k a l b)),
     )
 
 pub returns : goal.returns
 returns c =
     λ ks e.
-    let one = (subst (Went _ _ _ _ _ _ _) (not-false c.rule6_for.result c.if-not-rule6_for.false-raw) (c.rule6_for.ensures ks e)) in
-    let two = (subst (Went _ _ _ _ _ _ _) (not-false c.rule6_for-2.result c.if-not-rule6_for-2.false-raw) (c.rule6_for-2.ensures ks e)) in
+    let one = (subst (Went _ _ (FedFor c.args.v ks c.args.p c.args.q) _ _ _ _) (not-false c.rule6_for.result c.if-not-rule6_for.false-raw) (c.rule6_for.ensures ks e)) in
+    let two = (subst (Went _ _ (FedFor c.args.v ks c.args.q c.args.p) _ _ _ _) (not-false c.rule6_for-2.result c.if-not-rule6_for-2.false-raw) (c.rule6_for-2.ensures ks e)) in
     last ks c.rule7_for.new.cells c.rule7_for.new.marks c.rule7_for.result one.0 one.1 two.0 two.1 (c.rule7_for.ensures ks e)

@@ -1,6 +1,5 @@
 -- `match_ways` meets its contract: the pairs of ways passed are the same, and no table is lost that is to be kept. The measure is the ways left.
 -- Assumes nothing.
-use Prim.Native.Nat.{◌-◌}
 use native.Mathlib.Omega.{arith}
 use borrow.Author.Count.{below_none}
 use borrow.Author.Tests.{not-true, not-false}

@@ -1,5 +1,4 @@
 -- `rule7_at_first` meets its contract: rule 7 is seen to of each line passed beside each line. The measure is the lines left. Assumes nothing.
-use Prim.Native.Nat.{◌-◌}
 use native.Mathlib.Omega.{arith}
 use Rattle.moves.proofs.Passing.{counting_none, counting_lost, counting_next}
 use Rattle.same_panels.proofs.Visiting.{steady_first, at_first}

@@ -13,7 +13,7 @@ use Rattle.bits.proofs.Laws.{has_small}
 use Rattle.by_board.proofs.Asking.{found_numbers}
 use Rattle.moves.proofs.Passing.{passing_none, passing_least, passing_lost, passing_next, passing_end, passing_less}
 use Rattle.same_panels.proofs.Visiting.{steady_each}
-use Rattle.same_panels.proofs.Finding.{shared, shared_small, by_ways}
+use Rattle.same_panels.proofs.Finding.{shared_small, by_ways}
 use Rattle.same_panels.proofs.rule7_by_ways.Tie as tie
 use Rattle.same_panels.proofs.rule7_by_ways.Lts as lts
 use Rattle.same_panels.proofs.rule7_by_ways.Reads as reads

@@ -1,5 +1,4 @@
 -- `rule7_first_beside` meets its contract: rule 7 is seen to of the line beside each line passed. The measure is the lines left. Assumes nothing.
-use Prim.Native.Nat.{◌-◌}
 use native.Mathlib.Omega.{arith}
 use Rattle.by_board.proofs.Asking.{line_located}
 use Rattle.moves.proofs.Passing.{counting_none, counting_lost, counting_next}

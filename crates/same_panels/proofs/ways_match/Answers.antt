@@ -1,5 +1,4 @@
 -- `ways_match` meets its contract: each pair of ways that was passed has E. The measure is the ways left. Assumes nothing.
-use Prim.Native.Nat.{◌-◌}
 use native.Mathlib.Omega.{arith}
 use borrow.Author.Count.{below_none, below_more}
 use Rattle.rules.proofs.Sets.{single_small}
@@ -29,12 +28,11 @@ pub loop-i-smaller : goal.loop-i-smaller
 loop-i-smaller c = omega arith
 
 pub loop-i-preserved : goal.loop-i-preserved
-loop-i-preserved c =
-    (
-      omega arith,
-      below_more _ _ c.loop-i.invariant.1
-          (pairs c.requires.1 c.loop-i-test.true c.pair_place-k.ensures c.args.cells.now c.meet.ensures c.if-meet-eq0.false),
-    )
+loop-i-preserved c = (
+  omega arith,
+  below_more _ _ c.loop-i.invariant.1
+      (pairs c.requires.1 c.loop-i-test.true c.pair_place-k.ensures c.args.cells.now c.meet.ensures c.if-meet-eq0.false),
+)
 
 pub returns : goal.returns
 returns c =

@@ -1,4 +1,4 @@
-use Prim.Native.Nat.{ℕ, ◌-◌, ◌≤◌, ◌<◌}
+use Prim.Native.Nat.{ℕ, ◌≤◌, ◌<◌}
 use Rattle.same_panels.proofs.Matching.{Pairs}
 use Rattle.same_panels.proofs.ways_match.Given as goal
 

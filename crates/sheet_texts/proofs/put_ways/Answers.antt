@@ -1,7 +1,7 @@
 -- `put_ways` meets its contract: the ways passed are put. The measure is the ways left. Assumes nothing.
 use mathlib.Core.Path.{sym, ap}
 use mathlib.Core.List.{flat_map}
-use Prim.Native.Nat.{ℕ, ◌-◌}
+use Prim.Native.Nat.{ℕ}
 use native.Mathlib.Omega.{arith}
 use lib.Seq.{take_all}
 use Rattle.puts.proofs.Putting.{put_none}
@@ -25,12 +25,11 @@ pub loop-i-smaller : goal.loop-i-smaller
 loop-i-smaller c = omega (arith, c.loop-i-test.true)
 
 pub loop-i-preserved : goal.loop-i-preserved
-loop-i-preserved c =
-    (
-      omega (arith, c.loop-i-test.true),
-      way_more _ _ c.loop-i-test.true c.loop-i.invariant.1
-          (put_as (ap (λ (n : ℕ). spaced (number n)) c.word_number.ensures) c.put_spaced-next.ensures),
-    )
+loop-i-preserved c = (
+  omega (arith, c.loop-i-test.true),
+  way_more _ _ c.loop-i-test.true c.loop-i.invariant.1
+      (put_as (ap (λ (n : ℕ). spaced (number n)) c.word_number.ensures) c.put_spaced-next.ensures),
+)
 
 pub returns : goal.returns
 returns c = put_as (ap ways_text (take_all _ _ c.loop-i-test.false)) c.loop-i.invariant.1

@@ -1,4 +1,4 @@
-use Prim.Native.Nat.{◌-◌, ◌≤◌}
+use Prim.Native.Nat.{◌≤◌}
 use lib.ListN.{length, take}
 use Rattle.puts.specs.Texts.{Put}
 use Rattle.sheet_texts.specs.Lines.{ways_text}

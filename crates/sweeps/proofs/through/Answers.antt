@@ -1,6 +1,6 @@
 -- `through` meets its contract: each third board that was passed is tended, from both sides. The measure is the boards left. Assumes nothing.
 use mathlib.Core.Path.{refl, sym, subst}
-use Prim.Native.Nat.{ℕ, ◌-◌, ◌<◌}
+use Prim.Native.Nat.{ℕ, ◌<◌}
 use native.Mathlib.Omega.{arith}
 use borrow.Author.Count.{below_none}
 use borrow.Author.Tests.{not-true, not-false}

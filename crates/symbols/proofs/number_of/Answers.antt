@@ -1,9 +1,9 @@
 -- `number_of` meets its contract: the bytes passed are the digits of the number so far. The measure is the bytes left. Assumes nothing.
 use mathlib.Core.Path.{sym, ap, ◌∙◌}
-use Prim.Native.Nat.{◌-◌, ◌≤◌, ◌<◌}
+use Prim.Native.Nat.{◌≤◌, ◌<◌}
 use native.Mathlib.Omega.{arith}
 use lib.ListN.{length}
-use Rattle.symbols.specs.Tokens.{mark, padded}
+use Rattle.symbols.specs.Tokens.{mark}
 use Rattle.symbols.proofs.Digits.{most_few, none_so_far, next_so_far, nothing_spelled, too_long, padded_none, no_digit, too_large, spelled}
 use Rattle.symbols.proofs.number_of.Goals as goal
 

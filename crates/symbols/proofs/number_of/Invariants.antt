@@ -1,4 +1,3 @@
-use Prim.Native.Nat.{◌-◌}
 use Rattle.symbols.proofs.Digits.{SoFar}
 use Rattle.symbols.proofs.number_of.Given as goal
 

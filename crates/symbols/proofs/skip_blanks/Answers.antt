@@ -1,6 +1,5 @@
 -- `skip_blanks` meets its contract: only blanks are passed. The measure is the bytes left. Assumes nothing.
 use mathlib.Core.Path.{refl, ◌∙◌}
-use Prim.Native.Nat.{◌-◌}
 use native.Mathlib.Omega.{arith}
 use borrow.Author.Tests.{ne_eqb}
 use Rattle.typed.specs.Symbols.{blank}

@@ -1,7 +1,7 @@
 -- `gather_from` meets its contract: the words of the lines passed are gathered. The measure is what is left of the text. Assumes nothing.
 use mathlib.Core.Path.{◌≡◌}
 use mathlib.Core.List.{List}
-use Prim.Native.Nat.{ℕ, ◌-◌, ◌<◌}
+use Prim.Native.Nat.{ℕ, ◌<◌}
 use native.Mathlib.Omega.{arith}
 use lib.ListN.{length}
 use Rattle.text_lines.proofs.Gathering.{gathering_start, room_left, countable, gathering_fault, later, gathering_on, gathering_end}

@@ -1,5 +1,4 @@
 -- `line_end` meets its contract: no byte that is passed is a line feed. The measure is the bytes left. Assumes nothing.
-use Prim.Native.Nat.{◌-◌}
 use native.Mathlib.Omega.{arith}
 use Rattle.text_lines.proofs.Ends.{plain_more}
 use Rattle.text_lines.proofs.line_end.Goals as goal

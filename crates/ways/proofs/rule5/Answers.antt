@@ -1,7 +1,7 @@
 -- `rule5` meets its contract: the ways that were passed lie below the panel and beside all ways, and the way at hand beside those that were
 -- passed. The measures are the ways left. Assumes nothing.
 use mathlib.Core.Path.{sym, subst}
-use Prim.Native.Nat.{ℕ, ◌+◌, ◌-◌, ◌≤◌, ◌<◌}
+use Prim.Native.Nat.{ℕ, ◌+◌, ◌≤◌, ◌<◌}
 use native.Mathlib.Omega.{arith}
 use Rattle.rules.specs.Relations.{relations, set_limit}
 use Rattle.rules.specs.Descriptions.{KindLine}

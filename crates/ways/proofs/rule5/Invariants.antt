@@ -1,5 +1,5 @@
 use mathlib.Core.List.{flat_map}
-use Prim.Native.Nat.{◌-◌, ◌≤◌}
+use Prim.Native.Nat.{◌≤◌}
 use lib.ListN.{length}
 use Rattle.rules.specs.Tables.{up_to}
 use Rattle.passes.specs.Passes.{Once}

@@ -141,7 +141,10 @@ pub slice_bounds-hand_over-end : goal.slice_bounds-hand_over-end
 slice_bounds-hand_over-end c = sym (length-take-le _ _ ((omega (arith, total-fits c.before.before.before, c.words-4-1.given))))
 
 pub hand_over-requires : goal.hand_over-requires
-hand_over-requires c = let t = total-fits c.before.before.before.before in omega (arith, (sym (length-take-le _ _ ((omega (arith, total-fits c.before.before.before.before, c.words-4-1.given))))))
+hand_over-requires c =
+    let t = total-fits c.before.before.before.before in
+    let fits : c.join-total.result ≤ length c.join-total.new.words = omega (arith, t, c.words-4-1.given) in
+    omega (arith, t, length-take-le _ _ fits)
 
 pub returns : goal.returns
 returns c = c.hand_over.ensures ∙ joined-told c.before.before.before.before.before.before.before

@@ -1,8 +1,7 @@
 -- `next_open` meets its contract: each pair passed has at most one relation, which its byte keeps. The measure is the pairs left. Assumes nothing.
 use mathlib.Core.Path.{subst}
-use Prim.Native.Nat.{ℕ, ◌-◌, ◌≤◌, ◌<◌}
+use Prim.Native.Nat.{ℕ, ◌≤◌, ◌<◌}
 use native.Mathlib.Omega.{arith}
-use Rattle.rules.specs.Relations.{size}
 use Rattle.passes.proofs.Passes.{place_few, ready_place}
 use Rattle.choosing.proofs.Walking.{pair_board, pair_within}
 use Rattle.choosing.proofs.Stepping.{going_none, going_room, going_try, going_on, going_end}

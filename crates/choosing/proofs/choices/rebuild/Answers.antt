@@ -1,6 +1,6 @@
 -- `rebuild` meets its contract: the choices at the pairs passed are struck in the first table. The measure is the pairs left. Assumes nothing.
 use mathlib.Core.Path.{refl, sym, ap, ◌∙◌, subst}
-use Prim.Native.Nat.{ℕ, ◌-◌, ◌<◌}
+use Prim.Native.Nat.{ℕ, ◌<◌}
 use native.Mathlib.Omega.{arith}
 use lib.ListN.{replicate}
 use Rattle.rules.specs.Relations.{set_limit}

@@ -1,5 +1,4 @@
 -- `put_pairs` meets its contract: the lines of the boards passed are put. The measure is the boards left. Assumes nothing.
-use Prim.Native.Nat.{◌-◌}
 use native.Mathlib.Omega.{arith}
 use Rattle.listing.specs.Listings.{pairs_of}
 use Rattle.listing.proofs.Rows.{lines_none, lines_fit, lines_more, lines_all}

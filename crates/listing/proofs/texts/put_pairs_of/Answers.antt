@@ -12,12 +12,11 @@ overflow_step-q c =
     record { fits = omega (arith, c.requires.1) }
 
 pub loop-q-init : goal.loop-q-init
-loop-q-init c =
-    (
-      omega arith,
-      omega (arith, c.requires.1),
-      lines_none (pair_line c.args.v c.args.table.now c.args.p) (suc c.args.p) c.args.text.now c.args.at (omega arith),
-    )
+loop-q-init c = (
+  omega arith,
+  omega (arith, c.requires.1),
+  lines_none (pair_line c.args.v c.args.table.now c.args.p) (suc c.args.p) c.args.text.now c.args.at (omega arith),
+)
 
 pub overflow_mul-v : goal.overflow_mul-v
 overflow_mul-v c =

@@ -3,15 +3,11 @@
 use mathlib.Core.Path.{◌≡◌}
 use Rattle.rules.specs.Search.{plain_order}
 use Rattle.contracts.specs.Promises.{AsksNothing, Teaches}
-use Rattle.talung.specs.Packed.{unpack}
-use Rattle.talung.proofs.Packing.{unpacks}
-use Rattle.talung.proofs.Numbers.{reading_numbered, opening_numbered, close_numbered, searching_numbered, check_numbered}
 use Rattle.listing.specs.Listings.{input_line, listing as prints}
 use Rattle.listing.specs.Pages.{page}
 use Rattle.solver.proofs.Determined.{read_asks_nothing, open_asks_nothing, close_asks_nothing, search_asks_nothing, check_asks_nothing}
 use Rattle.reading.proofs.Determined.{from_text_asks_nothing}
 use Rattle.writing.proofs.Determined.{to_text_asks_nothing}
-use Rattle.talung.proofs.Determined.{talung_read_asks_nothing, talung_open_asks_nothing, talung_close_asks_nothing, talung_search_asks_nothing, talung_check_asks_nothing, talung_from_text_asks_nothing, talung_to_text_asks_nothing}
 use Rattle.listing.proofs.Determined.{listing_asks_nothing, unread_asks_nothing}
 use Rattle.solver.proofs.read.Kinds as read_kinds
 use Rattle.solver.proofs.read.Reads as read
@@ -41,34 +37,6 @@ use Rattle.writing.proofs.to_text.Kinds as to_text_kinds
 use Rattle.writing.proofs.to_text.Reads as to-text
 use Rattle.writing.proofs.to_text.Statement as to_text_stated
 use Rattle.writing.proofs.to_text.Met as to_text_met
-use Rattle.talung.proofs.talung_read.Kinds as c_read_kinds
-use Rattle.talung.proofs.talung_read.Reads as c_read
-use Rattle.talung.proofs.talung_read.Statement as c_read_stated
-use Rattle.talung.proofs.talung_read.Met as c_read_met
-use Rattle.talung.proofs.talung_open.Kinds as c_open_kinds
-use Rattle.talung.proofs.talung_open.Reads as c_open
-use Rattle.talung.proofs.talung_open.Statement as c_open_stated
-use Rattle.talung.proofs.talung_open.Met as c_open_met
-use Rattle.talung.proofs.talung_close.Kinds as c_close_kinds
-use Rattle.talung.proofs.talung_close.Reads as c_close
-use Rattle.talung.proofs.talung_close.Statement as c_close_stated
-use Rattle.talung.proofs.talung_close.Met as c_close_met
-use Rattle.talung.proofs.talung_search.Kinds as c_search_kinds
-use Rattle.talung.proofs.talung_search.Reads as c_search
-use Rattle.talung.proofs.talung_search.Statement as c_search_stated
-use Rattle.talung.proofs.talung_search.Met as c_search_met
-use Rattle.talung.proofs.talung_check.Kinds as c_check_kinds
-use Rattle.talung.proofs.talung_check.Reads as c_check
-use Rattle.talung.proofs.talung_check.Statement as c_check_stated
-use Rattle.talung.proofs.talung_check.Met as c_check_met
-use Rattle.talung.proofs.talung_from_text.Kinds as c_from_text_kinds
-use Rattle.talung.proofs.talung_from_text.Reads as c_from_text
-use Rattle.talung.proofs.talung_from_text.Statement as c_from_text_stated
-use Rattle.talung.proofs.talung_from_text.Met as c_from_text_met
-use Rattle.talung.proofs.talung_to_text.Kinds as c_to_text_kinds
-use Rattle.talung.proofs.talung_to_text.Reads as c_to_text
-use Rattle.talung.proofs.talung_to_text.Statement as c_to_text_stated
-use Rattle.talung.proofs.talung_to_text.Met as c_to_text_met
 use Rattle.listing.proofs.listing.Kinds as listing_kinds
 use Rattle.listing.proofs.listing.Reads as listing
 use Rattle.listing.proofs.listing.Statement as listing_stated
@@ -101,26 +69,7 @@ every_entry_point = (
   (to_text_asks_nothing, to_text_met.met),
 )
 
--- So does every call for C,
-pub every_call_for_c : {M : Type 1}
-    → (AsksNothing 1 c_read_kinds.ps c_read.Asked × c_read_stated.statement M)
-    × (AsksNothing 2 c_open_kinds.ps c_open.Asked × c_open_stated.statement M)
-    × (AsksNothing 2 c_close_kinds.ps c_close.Asked × c_close_stated.statement M)
-    × (AsksNothing 2 c_search_kinds.ps c_search.Asked × c_search_stated.statement M)
-    × (AsksNothing 2 c_check_kinds.ps c_check.Asked × c_check_stated.statement M)
-    × (AsksNothing 2 c_from_text_kinds.ps c_from_text.Asked × c_from_text_stated.statement M)
-    × (AsksNothing 2 c_to_text_kinds.ps c_to_text.Asked × c_to_text_stated.statement M)
-every_call_for_c = (
-  (talung_read_asks_nothing, c_read_met.met),
-  (talung_open_asks_nothing, c_open_met.met),
-  (talung_close_asks_nothing, c_close_met.met),
-  (talung_search_asks_nothing, c_search_met.met),
-  (talung_check_asks_nothing, c_check_met.met),
-  (talung_from_text_asks_nothing, c_from_text_met.met),
-  (talung_to_text_asks_nothing, c_to_text_met.met),
-)
-
--- and so do the two functions that decide what the program prints.
+-- So do the two functions that decide what the program prints.
 pub every_page : {M : Type 1}
     → (AsksNothing 1 listing_kinds.ps listing.Asked × listing_stated.statement M)
     × (AsksNothing 0 unread_kinds.ps unread.Asked × unread_stated.statement M)
@@ -151,28 +100,6 @@ from_text_learnt κs a x e h = h
 
 pub to_text_learnt : Teaches 2 to_text_kinds.ps to_text_kinds.r to-text.Learnt (λ κs a x e. WritingText a.0.now a.1.0.now x e.1.0.now)
 to_text_learnt κs a x e h = h
-
--- Of a call for C the same is learnt of the number and the count that its answer is unpacked to.
-pub c_read_learnt : Teaches 1 c_read_kinds.ps c_read_kinds.r c_read.Learnt (λ κs a x e. Reads a.0.now (unpack x))
-c_read_learnt κs a x e h = unpacks (reading_numbered a.0.now) h
-
-pub c_open_learnt : Teaches 2 c_open_kinds.ps c_open_kinds.r c_open.Learnt (λ κs a x e. Opening a.0.now a.1.0.now (unpack x) e.1.0.now)
-c_open_learnt κs a x e h = unpacks (opening_numbered a.0.now a.1.0.now) h
-
-pub c_close_learnt : Teaches 2 c_close_kinds.ps c_close_kinds.r c_close.Learnt (λ κs a x e. Closing a.0.now a.1.0.now (unpack x) e.1.0.now)
-c_close_learnt κs a x e h = unpacks (close_numbered a.0.now a.1.0.now) h
-
-pub c_search_learnt : Teaches 2 c_search_kinds.ps c_search_kinds.r c_search.Learnt (λ κs a x e. Searching plain_order a.0.now a.1.0.now a.1.1.0 (unpack x) e.1.0.now)
-c_search_learnt κs a x e h = unpacks (searching_numbered plain_order a.0.now a.1.0.now a.1.1.0) h
-
-pub c_check_learnt : Teaches 2 c_check_kinds.ps c_check_kinds.r c_check.Learnt (λ κs a x e. Checking a.0.now a.1.0.now (unpack x))
-c_check_learnt κs a x e h = unpacks (check_numbered a.0.now a.1.0.now) h
-
-pub c_from_text_learnt : Teaches 2 c_from_text_kinds.ps c_from_text_kinds.r c_from_text.Learnt (λ κs a x e. ReadingText a.0.now a.1.0.now (unpack x) e.1.0.now)
-c_from_text_learnt κs a x e h = unpacks (from_text_few a.0.now a.1.0.now) h
-
-pub c_to_text_learnt : Teaches 2 c_to_text_kinds.ps c_to_text_kinds.r c_to_text.Learnt (λ κs a x e. WritingText a.0.now a.1.0.now (unpack x) e.1.0.now)
-c_to_text_learnt κs a x e h = unpacks (to_text_few a.0.now a.1.0.now) h
 
 -- Of the program's page: it is the one that 01 says, of the bytes that were read, or where none could be.
 pub listing_learnt : Teaches 1 listing_kinds.ps listing_kinds.r listing.Learnt (λ κs a x e. x ≡ page (prints a.0.now))

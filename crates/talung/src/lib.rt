@@ -22,8 +22,7 @@ fn pack(number: u8, count: u32) -> u64
 }
 
 // Reads a description, as `solver::read` does.
-#[unsafe(no_mangle)]
-pub extern "C" fn talung_read(words: &[u16]) -> u64
+pub fn talung_read(words: &[u16]) -> u64
     ensures { Packed result tt (reading words.now) }
 {
     let read = solver::read(words);
@@ -31,8 +30,7 @@ pub extern "C" fn talung_read(words: &[u16]) -> u64
 }
 
 // Opens the lent table, whatever it holds, under the description, as `solver::open` does.
-#[unsafe(no_mangle)]
-pub extern "C" fn talung_open(words: &[u16], table: &mut [u8]) -> u64
+pub fn talung_open(words: &[u16], table: &mut [u8]) -> u64
     ensures { Packed result table.new (opening words.now table.old) }
 {
     let opened = solver::open(words, table);
@@ -40,8 +38,7 @@ pub extern "C" fn talung_open(words: &[u16], table: &mut [u8]) -> u64
 }
 
 // Closes the lent table under the description, as `solver::close` does.
-#[unsafe(no_mangle)]
-pub extern "C" fn talung_close(words: &[u16], table: &mut [u8]) -> u64
+pub fn talung_close(words: &[u16], table: &mut [u8]) -> u64
     ensures { Packed result table.new (close words.now table.old) }
 {
     let closed = solver::close(words, table);
@@ -49,8 +46,7 @@ pub extern "C" fn talung_close(words: &[u16], table: &mut [u8]) -> u64
 }
 
 // Searches the lent table for an arrangement of the description within a budget of tries, as `solver::search` does.
-#[unsafe(no_mangle)]
-pub extern "C" fn talung_search(words: &[u16], table: &mut [u8], budget: u32) -> u64
+pub fn talung_search(words: &[u16], table: &mut [u8], budget: u32) -> u64
     ensures { Packed result table.new (searching plain_order words.now table.old budget) }
 {
     let searched = solver::search(words, table, budget);
@@ -58,8 +54,7 @@ pub extern "C" fn talung_search(words: &[u16], table: &mut [u8], budget: u32) ->
 }
 
 // Says whether the table is an arrangement of the description, as `solver::check` does.
-#[unsafe(no_mangle)]
-pub extern "C" fn talung_check(words: &[u16], table: &[u8]) -> u64
+pub fn talung_check(words: &[u16], table: &[u8]) -> u64
     ensures { Packed result table.now (check words.now table.now) }
 {
     let checked = solver::check(words, table);
@@ -67,8 +62,7 @@ pub extern "C" fn talung_check(words: &[u16], table: &[u8]) -> u64
 }
 
 // Reads a typed sheet: the words of its description go to the front of the lent room, as `reading::from_text` has them.
-#[unsafe(no_mangle)]
-pub extern "C" fn talung_from_text(text: &[u8], room: &mut [u16]) -> u64
+pub fn talung_from_text(text: &[u8], room: &mut [u16]) -> u64
     ensures { Packed result room.new (from_text text.now room.old) }
 {
     let made = reading::from_text(text, room);
@@ -76,8 +70,7 @@ pub extern "C" fn talung_from_text(text: &[u8], room: &mut [u16]) -> u64
 }
 
 // Writes a description as it is typed: the text goes to the front of the lent room, as `writing::to_text` has it.
-#[unsafe(no_mangle)]
-pub extern "C" fn talung_to_text(words: &[u16], room: &mut [u8]) -> u64
+pub fn talung_to_text(words: &[u16], room: &mut [u8]) -> u64
     ensures { Packed result room.new (to_text words.now room.old) }
 {
     let written = writing::to_text(words, room);

@@ -5,8 +5,9 @@ ghost use Rattle.std.specs.Prelude.{◌≡◌, ◌+◌, ◌≤◌, length};
 ghost use Rattle.listing.specs.Listings.{most_bytes};
 ghost use Rattle.site.specs.Reading.{AtMost};
 
-use libc::{STDERR_FILENO, STDIN_FILENO, STDOUT_FILENO};
 use listing::Page;
+use std::io;
+use std::io::{Read, Write};
 
 // The bytes that are read at most: one more than the longest description has, so that a longer input is noticed.
 const INPUT_BYTES: usize = listing::MOST_BYTES + 1;
@@ -26,23 +27,22 @@ fn input_room() -> [u8; INPUT_BYTES]
 }
 
 // Reads once, at most as many bytes as there is room for.
-fn take(bytes: &mut [u8]) -> Taken
+fn take<R: Read>(reader: &mut R, bytes: &mut [u8]) -> Taken
     ensures { AtMost (length bytes.old) result }
 {
-    let got = libc::read(STDIN_FILENO, bytes);
-    if got < 0 {
+    let Ok(n) = reader.read(bytes) else {
         return Taken::Failed;
-    }
-    Taken::Bytes(io::count(got, bytes))
+    };
+    Taken::Bytes(n)
 }
 
 // Reads until the input ends or the room is full.
-fn take_all(bytes: &mut [u8]) -> Taken
+fn take_all<R: Read>(reader: &mut R, bytes: &mut [u8]) -> Taken
     ensures { AtMost (length bytes.old) result }
 {
     let mut n = 0;
     while n < bytes.len() {
-        let Taken::Bytes(more) = take(&mut bytes[n..]) else {
+        let Taken::Bytes(more) = take(reader, &mut bytes[n..]) else {
             return Taken::Failed;
         };
         if more == 0 {
@@ -54,22 +54,24 @@ fn take_all(bytes: &mut [u8]) -> Taken
 }
 
 // The page for what is read.
-fn page() -> Page
+fn page<I: Input>(input: &I) -> Page
     ensures { result.used ≤ length result.text }
 {
+    let mut reader = input.reader();
     let mut bytes = input_room();
-    match take_all(&mut bytes) {
+    match take_all(&mut reader, &mut bytes) {
         Taken::Bytes(n) => listing::listing(&bytes[..n]),
         Taken::Failed => listing::unread(),
     }
 }
 
 // Prints the page. Where it could not be written as a whole, that is said on standard error.
-fn main() {
-    let page = page();
+fn main(rt: HostRuntime) {
+    let page = page(&rt);
     let text = page.text;
     let used = page.used;
-    if !io::write_all(STDOUT_FILENO, &text[..used]) {
-        io::write_all(STDERR_FILENO, b"site: the answer could not be written\n");
+    let mut out = io::writer(&rt);
+    if out.write_all(&text[..used]).is_err() {
+        let _ = eprintln!(rt; "site: the answer could not be written");
     }
 }

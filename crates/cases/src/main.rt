@@ -15,7 +15,8 @@ ghost use Rattle.std.specs.Prelude.{◌≡◌, ◌*◌, length};
 use crate::fronts::{Front, beginning};
 use crate::says::say_page;
 use answers::widths::count_number;
-use libc::STDIN_FILENO;
+use std::io;
+use std::io::{Read, Write};
 
 // The call that reads a description.
 const READ: u32 = 0;
@@ -48,128 +49,169 @@ const CASE_CELLS: usize = 512;
 const MOST_CASES: usize = 1000000000;
 
 // Makes a call of the solver: a search, unless the number is that of another call.
-fn make(call: u32, number: u32, words: &[u16], lent: &[u8], cells: &mut [u8]) {
+fn make<W: Write>(
+    out: &mut W,
+    call: u32,
+    number: u32,
+    words: &[u16],
+    lent: &[u8],
+    cells: &mut [u8],
+) -> io::Result<()> {
     if call == READ {
-        return calls::read(words);
+        return calls::read(out, words);
     }
     if call == OPEN {
-        return calls::open(words, lent, cells);
+        return calls::open(out, words, lent, cells);
     }
     if call == CLOSE {
-        return calls::close(words, lent, cells);
+        return calls::close(out, words, lent, cells);
     }
     if call == CHECK {
-        return calls::check(words, lent);
+        return calls::check(out, words, lent);
     }
-    calls::search(words, lent, cells, number)
+    calls::search(out, words, lent, cells, number)
 }
 
 // Fills the room from the input. Answers whether there was enough.
-fn filled(room: &mut [u8]) -> bool {
-    io::read_full(STDIN_FILENO, room) == room.len()
+fn filled<R: Read>(input: &mut R, room: &mut [u8]) -> bool {
+    input.read_exact(room).is_ok()
 }
 
 // Fills the room for words and the room for cells. Answers whether there was enough.
-fn both_filled(bytes: &mut [u8], lent: &mut [u8]) -> bool {
-    if !filled(bytes) {
+fn both_filled<R: Read>(input: &mut R, bytes: &mut [u8], lent: &mut [u8]) -> bool {
+    if !filled(input, bytes) {
         return false;
     }
-    filled(lent)
+    filled(input, lent)
 }
 
 // Runs a case of the solver, whose words and cells fill what is lent. Answers whether it was whole.
-fn solve(
+fn solve<R: Read, W: Write>(
+    input: &mut R,
+    out: &mut W,
     call: u32,
     number: u32,
     bytes: &mut [u8],
     words: &mut [u16],
     lent: &mut [u8],
     cells: &mut [u8],
-) -> bool
+) -> io::Result<bool>
     requires { (length bytes.old ≡ 2 * length words.old) × (length cells.old ≡ length lent.old) }
 {
-    if !both_filled(bytes, lent) {
-        return false;
+    if !both_filled(input, bytes, lent) {
+        return Ok(false);
     }
     words::take_words(bytes, words);
-    bytes::copy(lent, cells);
-    make(call, number, words, lent, cells);
-    true
+    cells.copy_from_slice(lent);
+    make(out, call, number, words, lent, cells)?;
+    Ok(true)
 }
 
 // Runs a case of the program, whose bytes and cells fill what is lent. Answers whether it was whole.
-fn print(bytes: &mut [u8], lent: &mut [u8]) -> bool {
-    if !both_filled(bytes, lent) {
-        return false;
+fn print<R: Read, W: Write>(
+    input: &mut R,
+    out: &mut W,
+    bytes: &mut [u8],
+    lent: &mut [u8],
+) -> io::Result<bool> {
+    if !both_filled(input, bytes, lent) {
+        return Ok(false);
     }
-    say_page(listing::listing(bytes));
-    true
+    say_page(out, listing::listing(bytes))?;
+    Ok(true)
 }
 
 // Runs a case that reads a text, which fills the bytes, with the words as room. Answers whether it was whole.
-fn type_in(bytes: &mut [u8], words: &mut [u16]) -> bool {
-    if !filled(bytes) {
-        return false;
+fn type_in<R: Read, W: Write>(
+    input: &mut R,
+    out: &mut W,
+    bytes: &mut [u8],
+    words: &mut [u16],
+) -> io::Result<bool> {
+    if !filled(input, bytes) {
+        return Ok(false);
     }
-    texts::from_text(bytes, words);
-    true
+    texts::from_text(out, bytes, words)?;
+    Ok(true)
 }
 
 // Runs a case that writes a text, whose words fill the bytes, in so much room. Answers whether it was whole and had room.
-fn type_out(bytes: &mut [u8], words: &mut [u16], room: usize) -> bool
+fn type_out<R: Read, W: Write>(
+    input: &mut R,
+    out: &mut W,
+    bytes: &mut [u8],
+    words: &mut [u16],
+    room: usize,
+) -> io::Result<bool>
     requires { length bytes.old ≡ 2 * length words.old }
 {
-    if !filled(bytes) {
-        return false;
+    if !filled(input, bytes) {
+        return Ok(false);
     }
     words::take_words(bytes, words);
-    texts::to_text(words, room)
+    texts::to_text(out, words, room)
 }
 
 // Runs the case of a text call with this front, in room for its bytes and words. Answers whether it was whole and had room.
-fn typed(f: Front, bytes: &mut [u8], words: &mut [u16]) -> bool {
+fn typed<R: Read, W: Write>(
+    input: &mut R,
+    out: &mut W,
+    f: Front,
+    bytes: &mut [u8],
+    words: &mut [u16],
+) -> io::Result<bool> {
     let n = f.words;
     let room = count_number(f.number);
     if f.call == FROM_TEXT {
         if bytes.len() < n {
-            return false;
+            return Ok(false);
         }
         if words.len() < room {
-            return false;
+            return Ok(false);
         }
-        return type_in(&mut bytes[..n], &mut words[..room]);
+        return type_in(input, out, &mut bytes[..n], &mut words[..room]);
     }
     if words.len() < n {
-        return false;
+        return Ok(false);
     }
     if bytes.len() / 2 < n {
-        return false;
+        return Ok(false);
     }
     let size = 2 * n;
-    type_out(&mut bytes[..size], &mut words[..n], room)
+    type_out(input, out, &mut bytes[..size], &mut words[..n], room)
 }
 
 // Runs the case with this front, in room for its bytes, words and cells. Answers whether it was whole and had room.
-fn rest(f: Front, bytes: &mut [u8], words: &mut [u16], lent: &mut [u8], cells: &mut [u8]) -> bool {
+fn rest<R: Read, W: Write>(
+    input: &mut R,
+    out: &mut W,
+    f: Front,
+    bytes: &mut [u8],
+    words: &mut [u16],
+    lent: &mut [u8],
+    cells: &mut [u8],
+) -> io::Result<bool> {
     let n = f.words;
     let m = f.cells;
     if words.len() < n {
-        return false;
+        return Ok(false);
     }
     if bytes.len() / 2 < n {
-        return false;
+        return Ok(false);
     }
     if lent.len() < m {
-        return false;
+        return Ok(false);
     }
     if cells.len() < m {
-        return false;
+        return Ok(false);
     }
     if f.call == SITE {
-        return print(&mut bytes[..n], &mut lent[..m]);
+        return print(input, out, &mut bytes[..n], &mut lent[..m]);
     }
     let size = 2 * n;
     solve(
+        input,
+        out,
         f.call,
         f.number,
         &mut bytes[..size],
@@ -180,22 +222,29 @@ fn rest(f: Front, bytes: &mut [u8], words: &mut [u16], lent: &mut [u8], cells: &
 }
 
 // Runs the next case, in room for its bytes, words and cells. Answers whether there was one.
-fn case(bytes: &mut [u8], words: &mut [u16], lent: &mut [u8], cells: &mut [u8]) -> bool {
+fn case<R: Read, W: Write>(
+    input: &mut R,
+    out: &mut W,
+    bytes: &mut [u8],
+    words: &mut [u16],
+    lent: &mut [u8],
+    cells: &mut [u8],
+) -> io::Result<bool> {
     let mut front = [0u8; 16];
-    if !filled(&mut front) {
-        return false;
+    if !filled(input, &mut front) {
+        return Ok(false);
     }
     let f = beginning(front);
     if f.call == FROM_TEXT {
-        return typed(f, bytes, words);
+        return typed(input, out, f, bytes, words);
     }
     if f.call == TO_TEXT {
-        return typed(f, bytes, words);
+        return typed(input, out, f, bytes, words);
     }
-    rest(f, bytes, words, lent, cells)
+    rest(input, out, f, bytes, words, lent, cells)
 }
 
-fn main() {
+fn main(rt: HostRuntime) -> io::Result<()> {
     let mut bytes_room = [0u8; 2 * CASE_WORDS];
     let mut words_room = [0u16; CASE_WORDS];
     let mut lent_room = [0u8; CASE_CELLS];
@@ -204,9 +253,12 @@ fn main() {
     let words: &mut [u16] = &mut words_room;
     let lent: &mut [u8] = &mut lent_room;
     let cells: &mut [u8] = &mut cells_room;
+    let mut input = rt.reader();
+    let mut out = io::writer(&rt);
     for _ in 0..MOST_CASES {
-        if !case(bytes, words, lent, cells) {
-            return;
+        if !case(&mut input, &mut out, bytes, words, lent, cells)? {
+            return Ok(());
         }
     }
+    Ok(())
 }

@@ -1,48 +1,45 @@
 // What a case comes to, as text.
-use answers::widths::{byte_number, number_long};
-use libc::STDOUT_FILENO;
 use listing::{PAGE_BYTES, Page};
+use std::io;
+use std::io::Write;
 use talung::COUNT_UNIT;
 
 // Writes the call, and the number and the count of its answer.
-pub(crate) fn say_answer(call: &[u8], answer: u64) {
-    io::write_all(STDOUT_FILENO, call);
-    io::print_decimal(STDOUT_FILENO, answer % COUNT_UNIT);
-    io::write_all(STDOUT_FILENO, b" ");
-    io::print_decimal(STDOUT_FILENO, answer / COUNT_UNIT);
+pub(crate) fn say_answer<W: Write>(out: &mut W, call: &str, answer: u64) -> io::Result<()> {
+    let number = answer % COUNT_UNIT;
+    let count = answer / COUNT_UNIT;
+    write!(out, "{call} {number} {count}")
 }
 
 // Ends the line.
-pub(crate) fn say_end() {
-    io::write_all(STDOUT_FILENO, b"\n");
+pub(crate) fn say_end<W: Write>(out: &mut W) -> io::Result<()> {
+    out.write_all(b"\n")
 }
 
 // Writes the cells, each as a digit, or that they are as they were lent, and ends the line.
-pub(crate) fn say_table(lent: &[u8], cells: &[u8]) {
-    if check::same(lent, cells) {
-        io::write_all(STDOUT_FILENO, b" same\n");
-        return;
+pub(crate) fn say_table<W: Write>(out: &mut W, lent: &[u8], cells: &[u8]) -> io::Result<()> {
+    if lent == cells {
+        return out.write_all(b" same\n");
     }
-    io::write_all(STDOUT_FILENO, b" ");
-    let mut i = 0;
-    while i < cells.len() {
-        io::print_hex(STDOUT_FILENO, number_long(byte_number(cells[i])), 1);
-        i += 1;
+    out.write_all(b" ")?;
+    for cell in cells {
+        write!(out, "{cell:x}")?;
     }
-    say_end();
+    say_end(out)
 }
 
 // Writes so many bytes of a page.
-fn say_used(text: &[u8; PAGE_BYTES], used: usize) {
+fn say_used<W: Write>(out: &mut W, text: &[u8; PAGE_BYTES], used: usize) -> io::Result<()> {
     let whole: &[u8] = text;
     if used <= whole.len() {
-        io::write_all(STDOUT_FILENO, &whole[..used]);
+        out.write_all(&whole[..used])?;
     }
+    Ok(())
 }
 
 // Writes what the program prints.
-pub(crate) fn say_page(page: Page) {
-    io::write_all(STDOUT_FILENO, b"site\n");
+pub(crate) fn say_page<W: Write>(out: &mut W, page: Page) -> io::Result<()> {
+    out.write_all(b"site\n")?;
     let text = page.text;
-    say_used(&text, page.used);
+    say_used(out, &text, page.used)
 }

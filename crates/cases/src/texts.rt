@@ -2,8 +2,8 @@
 ghost use Rattle.std.specs.Prelude.{◌≡◌, length};
 
 use crate::says::{say_answer, say_end};
-use answers::widths::{number_long, word_number};
-use libc::STDOUT_FILENO;
+use std::io;
+use std::io::Write;
 use talung::COUNT_UNIT;
 
 // What fills a room of words, and one of bytes.
@@ -15,96 +15,84 @@ const BYTE: u8 = 165;
 const TEXT_ROOM: usize = 32768;
 
 fn fill_words(room: &mut [u16]) {
-    let mut i = 0;
-    while i < room.len() {
-        room[i] = WORD;
-        i += 1;
+    for word in room.iter_mut() {
+        *word = WORD;
     }
 }
 
 fn fill_bytes(room: &mut [u8]) {
-    let mut i = 0;
-    while i < room.len() {
-        room[i] = BYTE;
-        i += 1;
+    for byte in room.iter_mut() {
+        *byte = BYTE;
     }
 }
 
 // Whether the words from a place on are as they came.
 fn words_kept(room: &[u16], from: usize) -> bool {
-    let mut i = from;
-    while i < room.len() {
+    for i in from..room.len() {
         if room[i] != WORD {
             return false;
         }
-        i += 1;
     }
     true
 }
 
 // Whether the bytes from a place on are as they came.
 fn bytes_kept(room: &[u8], from: usize) -> bool {
-    let mut i = from;
-    while i < room.len() {
+    for i in from..room.len() {
         if room[i] != BYTE {
             return false;
         }
-        i += 1;
     }
     true
 }
 
 // Writes the first words of a room, each after a blank.
-fn say_words(room: &[u16], count: usize) {
-    let mut i = 0;
-    while i < room.len() {
+fn say_words<W: Write>(out: &mut W, room: &[u16], count: usize) -> io::Result<()> {
+    for (i, word) in room.iter().enumerate() {
         if i < count {
-            io::write_all(STDOUT_FILENO, b" ");
-            io::print_decimal(STDOUT_FILENO, number_long(word_number(room[i])));
+            write!(out, " {word}")?;
         }
-        i += 1;
     }
+    Ok(())
 }
 
 // Writes whether what stands past the count is as it came, and ends the line.
-fn say_kept(kept: bool) {
+fn say_kept<W: Write>(out: &mut W, kept: bool) -> io::Result<()> {
     if kept {
-        io::write_all(STDOUT_FILENO, b"kept\n");
+        out.write_all(b"kept\n")
     } else {
-        io::write_all(STDOUT_FILENO, b"lost\n");
+        out.write_all(b"lost\n")
     }
 }
 
 // Reads a text into the room.
-pub(crate) fn from_text(text: &[u8], room: &mut [u16]) {
+pub(crate) fn from_text<W: Write>(out: &mut W, text: &[u8], room: &mut [u16]) -> io::Result<()> {
     fill_words(room);
     let answer = talung::talung_from_text(text, room);
-    say_answer(b"typed ", answer);
+    say_answer(out, "typed", answer)?;
     if words_kept(room, 0) {
-        io::write_all(STDOUT_FILENO, b" same\n");
-        return;
+        return out.write_all(b" same\n");
     }
     let count = (answer / COUNT_UNIT) as usize;
-    say_words(room, count);
-    io::write_all(STDOUT_FILENO, b" ");
-    say_kept(words_kept(room, count));
+    say_words(out, room, count)?;
+    out.write_all(b" ")?;
+    say_kept(out, words_kept(room, count))
 }
 
 // Writes a text into the room.
-fn write_in(words: &[u16], room: &mut [u8]) {
+fn write_in<W: Write>(out: &mut W, words: &[u16], room: &mut [u8]) -> io::Result<()> {
     fill_bytes(room);
     let answer = talung::talung_to_text(words, room);
-    say_answer(b"texted ", answer);
+    say_answer(out, "texted", answer)?;
     if bytes_kept(room, 0) {
-        io::write_all(STDOUT_FILENO, b" same\n");
-        return;
+        return out.write_all(b" same\n");
     }
     let count = (answer / COUNT_UNIT) as usize;
-    say_end();
+    say_end(out)?;
     if count <= room.len() {
-        io::write_all(STDOUT_FILENO, &room[..count]);
+        out.write_all(&room[..count])?;
     }
-    say_kept(bytes_kept(room, count));
+    say_kept(out, bytes_kept(room, count))
 }
 
 // Room for a text.
@@ -115,11 +103,11 @@ fn text_room() -> [u8; TEXT_ROOM]
 }
 
 // Writes a text into room of this size. Answers whether there is so much.
-pub(crate) fn to_text(words: &[u16], size: usize) -> bool {
+pub(crate) fn to_text<W: Write>(out: &mut W, words: &[u16], size: usize) -> io::Result<bool> {
     if TEXT_ROOM < size {
-        return false;
+        return Ok(false);
     }
     let mut whole = text_room();
-    write_in(words, &mut whole[..size]);
-    true
+    write_in(out, words, &mut whole[..size])?;
+    Ok(true)
 }

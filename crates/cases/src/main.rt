@@ -2,7 +2,7 @@
 //
 // A case begins with four numbers of 32 bits: its call, a number, how many words and how many cells it has; then come the words, of 16 bits, and the
 // cells, of a byte. All numbers are little-endian. The number is the budget for a search, and how much room is lent to a text call. A case of the program, and
-// one that reads a text, has bytes for words. The run ends with the input, or at a case that is cut off or too large.
+// one that reads a text, has bytes for words. The run ends with the input, or at a case that is cut off or too large; where the output fails, with its error.
 #![tactic(auto)]
 
 mod calls;

@@ -4,12 +4,9 @@
 test:
 	@sh tests/run.sh
 
-# make lib: the library that people link and its header, in dist/. What it stands on is proved first, on all processors; rt staticlib alone would use one.
+# make lib: the library that people link and its header, in dist/. What it stands on is proved first.
 lib:
-	@rt check talung
-	@rt staticlib talung
-	@mkdir -p dist
-	@cp include/talungbisay.h target/staticlib/libtalung.a dist/
+	@. tools/kit.sh && build_library
 
 # make c_example: builds the example in C against dist/, runs it and compares what it writes.
 c_example: lib

@@ -2,12 +2,11 @@
 # Counts the instructions of the product's calls beside those of the plain C versions, on the average of a group's sheets. Neither the load of the machine nor
 # where code lies in memory changes a count, so it compares two versions of the product where times are too near.
 # It needs dist/, which 'make lib' fills, and valgrind, which is installed with apt-get where it is not there.
-# Exit status: 0 counted; 2 something could not be built, or this is no x86-64 machine.
+# Exit status: 0 counted; 2 something could not be built.
 set -eu
 
 cd "$(dirname "$0")/.."
 . tools/kit.sh
-[ -z "$emulator" ] || die "instructions are counted on x86-64 alone"
 . bench/parts.sh
 if ! command -v valgrind >/dev/null 2>&1; then
     { apt-get update && apt-get install -y valgrind; } >&2
@@ -18,8 +17,8 @@ program=$built/bench-0
 link_bench "$program" 0
 rm -f "$built"/counts*
 # valgrind writes a file after each group's calls, numbered from 1: the product's of the first group, plain C's of it, those by sweeps if it has them, and so on.
-under="valgrind -q --tool=callgrind --collect-atstart=no --toggle-collect=counted --dump-after=counted --callgrind-out-file=$built/counts"
-run_program "$program" count >"$built/counted"
+valgrind -q --tool=callgrind --collect-atstart=no --toggle-collect=counted --dump-after=counted "--callgrind-out-file=$built/counts" \
+    "$program" count >"$built/counted"
 
 files=0
 next_count() { # leaves in count what the next file counts

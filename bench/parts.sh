@@ -1,7 +1,6 @@
 # What bench/run.sh and bench/count.sh share, to be sourced at the top of the repository after tools/kit.sh: how the benchmark's parts are compiled, to
 # target/bench/, and how its program is linked. It needs dist/, which 'make lib' fills.
-library=dist/libtalung.a
-[ -f "$library" ] || die "no $library: run 'make lib' first"
+[ -f dist/libtalung.a ] || die "no dist/libtalung.a: run 'make lib' first"
 
 built=target/bench
 mkdir -p "$built"
@@ -36,10 +35,10 @@ compile_parts() {
 link_bench() { # PROGRAM SHIFT: with the code of all versions moved on by SHIFT bytes
     compile shift.S shift.o "-DSHIFT=$2"
     # shellcheck disable=SC2086
-    link_program "$1" $parts "$built/shift.o" $versions "$library"
+    link_program "$1" $parts "$built/shift.o" $versions dist/libtalung.a
 }
 
 link_counting() { # PROGRAM: whose plain versions count the triples that they look at
     # shellcheck disable=SC2086
-    link_program "$1" $parts $counting "$library"
+    link_program "$1" $parts $counting dist/libtalung.a
 }

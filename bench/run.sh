@@ -1,8 +1,7 @@
 #!/bin/sh
 # Measures the product's calls beside plain C versions, and compares all that they answer: opening, closing, the search and the text calls. Opening, closing and the
 # search stand beside two of them, by the product's method and by sweeps. Then it tells how the costs of closings and searches grow with the number of boards.
-# It needs dist/, which 'make lib' fills; what it builds itself goes to target/bench/. On another kind of machine than x86-64 it compares what the library answers
-# under the emulator, and then measures the library's module as compiled for that machine.
+# It needs dist/, which 'make lib' fills; what it builds itself goes to target/bench/.
 # Where code lies in memory can change a time by a third. So the program is linked sixteen times, with the code of all versions moved on by 240 bytes each time,
 # which goes over a page of 4,096 bytes and over every multiple of 16 within 256. The times shown are averages over the sixteen. A ratio is the geometric mean of
 # twelve of theirs, without the two lowest and the two highest; and a time in the tables of growth is the average of twelve.
@@ -16,28 +15,19 @@ cd "$(dirname "$0")/.."
 run_to() { # FILE PROGRAM WORDS...: what the program prints goes to the file
     to=$1
     shift
-    run_program "$@" >"$to" || {
+    "$@" >"$to" || {
         status=$?
         cat "$to" >&2
         exit "$status"
     }
 }
 
-link_and_run() { # SHIFT
-    link_bench "$built/bench-$1" "$1"
-    run_to "$built/times-$1" "$built/bench-$1"
-}
-
 compile_parts
 rm -f "$built"/times-* "$built"/growth-*
-if [ -n "$emulator" ]; then
-    link_and_run 0
-    . bench/native.sh
-    compile_parts
-fi
 shift=0
 while [ "$shift" -lt 3840 ]; do
-    link_and_run "$shift"
+    link_bench "$built/bench-$shift" "$shift"
+    run_to "$built/times-$shift" "$built/bench-$shift"
     run_to "$built/growth-$shift" "$built/bench-$shift" growth
     shift=$((shift + 240))
 done

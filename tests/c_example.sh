@@ -15,7 +15,7 @@ compile_c /dev/null "$built/header.o" -x c++ -pedantic -Werror -include dist/tal
 compile_c examples/c/example.c "$built/example.o" -std=c99 -pedantic -Werror -O2 -I dist
 link_program "$built/example" "$built/example.o" dist/libtalung.a
 
-run_program "$built/example" >"$built/wrote" || {
+"$built/example" >"$built/wrote" || {
     cat "$built/wrote"
     echo "c example: failed, the program ended with an error"
     exit 1

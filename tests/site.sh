@@ -5,7 +5,8 @@
 set -eu
 cd "$(dirname "$0")/.."
 . tools/kit.sh
-[ -x target/bin/site ] || die "no target/bin/site: run 'rt check site' first"
+site=crates/site/out/site
+[ -x "$site" ] || die "no $site: run './site' first"
 
 room=$(mktemp -d)
 trap 'rm -rf "$room"' EXIT
@@ -21,7 +22,7 @@ expect() { # NAME FILE: what was printed is that file
 }
 
 for file in tests/site/*.in; do
-    run_program target/bin/site <"$file" >"$room/printed"
+    "$site" <"$file" >"$room/printed"
     expect "$file" "${file%.in}.out"
 done
 
@@ -33,19 +34,19 @@ file=tests/site/example.in
     head -c 6 "$file" | tail -c 1
     sleep 0.2
     tail -c +7 "$file"
-} | run_program target/bin/site >"$room/printed"
+} | "$site" >"$room/printed"
 expect "an input in parts" "${file%.in}.out"
 
 # No input at all, and one that does not end.
 echo input >"$room/input"
-run_program target/bin/site <&- >"$room/printed"
+"$site" <&- >"$room/printed"
 expect "a closed input" "$room/input"
-yes | run_program target/bin/site >"$room/printed"
+yes | "$site" >"$room/printed"
 expect "an input without an end" "$room/input"
 
 # An answer that cannot be written is not lost in silence.
 echo 'site: the answer could not be written' >"$room/unwritten"
-run_program target/bin/site <"$file" >/dev/full 2>"$room/printed"
+"$site" <"$file" >/dev/full 2>"$room/printed"
 expect "a full output" "$room/unwritten"
 
 echo "site: $count inputs, no difference"

@@ -4,7 +4,7 @@
 run_filter() { # NAME: with standard input and output passed through
     built=target/filters
     [ -x "$built/$1" ] || alone build_filter "$1" || exit
-    run_program "$built/$1"
+    "$built/$1"
 }
 
 build_filter() { # NAME: unless it was built meanwhile; one line is said, and what the kit says where it fails

@@ -5,9 +5,7 @@
 set -eu
 cd "$(dirname "$0")/.."
 sh tools/second.sh
-rt check cases >target/cases.log 2>&1 || {
-    cat target/cases.log >&2
-    exit 2
-}
+. tools/kit.sh
+build_program cases
 cd target
-exec ./second fuzz "$1" "$2" sh ../tools/run.sh target/bin/cases
+exec ./second fuzz "$1" "$2" ../crates/cases/out/cases

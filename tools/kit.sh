@@ -1,5 +1,5 @@
-# What the scripts share, to be sourced at the top of the repository: where the Rattle kit is, and how something is built alone, a C file compiled, a program
-# linked and a program run with it. All programs are for x86-64: on another kind of machine they run under the kit's emulator, and their times say nothing.
+# What the scripts share, to be sourced at the top of the repository: where the Rattle kit is, and how the library or a program is built of the crates, something is
+# built alone, a C file compiled and a program linked. All that is built is for x86-64 Linux, as the kit is, and runs by itself.
 
 die() { # WORDS...: something could not be built
     printf '%s: %s\n' "${0##*/}" "$*" >&2
@@ -7,23 +7,68 @@ die() { # WORDS...: something could not be built
 }
 
 rt=$(command -v rt) || die "no rt on the path"
-kit=${RATTLE_HOME:-$(dirname "$(readlink -f "$rt")")/..}
-own=$kit/on/$(uname -m)
-toolchain=$own/toolchain
-[ -x "$toolchain/bin/clang" ] || die "the kit has nothing for this machine"
-emulator=$toolchain/bin/qemu-x86_64
-[ -x "$emulator" ] || emulator=''
-under='' # a command that watches the programs that are run, with its words
-
-# rt waits for each batch of RT_JOBS to end, so twice as many as there are processors leave none of them idle.
-: "${RT_JOBS:=$(($(nproc) * 2))}"
-export RT_JOBS
+kit=$(dirname "$(readlink -f "$rt")")/..
+toolchain=$kit/toolchain
+[ -x "$toolchain/bin/clang" ] || die "the kit of $rt has no C compiler"
 
 alone() { # COMMAND...: while nothing else is built here, since two builds at once would write the same files; the later one waits
     if ! command -v flock >/dev/null 2>&1; then
         { apt-get update && apt-get install -y util-linux; } >&2
     fi
     (flock 9 && "$@") 9<.
+}
+
+# What rt ci proved it leaves in crates/*/out, and other commands of rt do not take it: they would prove all of it once more. It does not say of which sources it is,
+# and where libraries stood there before, these stand there again after it. So after a run that found none and passed, the sum of the sources is noted; and a library
+# that another command of rt has built since has a file 'stamp' beside it.
+there_is() { # FILES...: whether a pattern of names fits any
+    [ -e "$1" ]
+}
+
+sum_of_sources() { # of the kit and of all that the library and the programs are made of
+    {
+        rt version
+        find crates -path 'crates/*/out' ! -path 'crates/*/*/out' -prune -o \( -name '*.rt' -o -name '*.antt' \) -print | LC_ALL=C sort | xargs sha256sum crates.txt
+    } | sha256sum
+}
+
+note_proved() { # after a run of rt ci that found no libraries and passed
+    mkdir -p target && sum_of_sources >target/proved
+}
+
+is_proved() { # whether what stands in crates/*/out is what rt ci proved of the sources as they are
+    ! there_is crates/*/out/rlib/stamp && [ -f target/proved ] && [ "$(cat target/proved)" = "$(sum_of_sources)" ]
+}
+
+# The library's own crate is thin. The kit's compiler checks it over the libraries that rt ci proved, and makes the archive.
+compile_library() {
+    set -- --crate-name talung_c --crate-type staticlib crates/talung_c/src/lib.rt --extern "std=$kit/rlibs/std.rlib" -L "dependency=$kit/rlibs"
+    for crate in $(sed -n 's/^talung_c staticlib://p' crates.txt); do
+        set -- "$@" --extern "$crate=crates/$crate/out/rlib/$crate.rlib"
+    done
+    for folder in crates/*/out/rlib; do
+        set -- "$@" -L "dependency=$folder"
+    done
+    mkdir -p crates/talung_c/out
+    "$kit/bin/rattle" build "$@" --antt-project "$kit/rattle/logic/antt-project.json" --logic-built "$kit/logic_built" --toolchain "$toolchain" \
+        -o crates/talung_c/out/libtalung_c.a
+}
+
+build_library() { # dist/libtalung.a and its header, of the sources as they are; what they stand on is proved first, unless rt ci has just done it
+    { is_proved && compile_library; } || (cd crates/talung_c && rt lib) || return
+    mkdir -p dist && cp crates/talung_c/out/libtalung_c.a dist/libtalung.a && cp include/talungbisay.h dist/
+}
+
+build_program() { # NAME: crates/NAME/out/NAME, of the sources as they are; what rt says is told where it fails
+    if is_proved && [ -x "crates/$1/out/$1" ]; then
+        return 0
+    fi
+    mkdir -p target || die "no folder target"
+    # rt runs what it has built, here on an input that is empty
+    (cd "crates/$1" && rt run </dev/null) >"target/$1.log" 2>&1 || {
+        cat "target/$1.log" >&2
+        die "the program could not be built"
+    }
 }
 
 compile_c() { # SOURCE OBJECT WORDS...: with C's headers as far as tools/headers/ declares them, since the kit has none
@@ -36,13 +81,8 @@ compile_c() { # SOURCE OBJECT WORDS...: with C's headers as far as tools/headers
 link_program() { # PROGRAM OBJECTS...
     program=$1
     shift
-    "$own/bin/rattle-link" --target x86_64-unknown-linux-gnu --toolchain "$toolchain" -o "$program" "$@" 2>"$program.log" || {
+    "$kit/bin/rattle-link" --target x86_64-unknown-linux-gnu --toolchain "$toolchain" -o "$program" "$@" 2>"$program.log" || {
         cat "$program.log" >&2
         die "$program does not link"
     }
-}
-
-run_program() { # PROGRAM WORDS...: one that was linked so, or target/bin/NAME; under the kit's loader and C library, as rt runs it
-    # shellcheck disable=SC2086
-    ${emulator:+"$emulator"} $under "$toolchain/lib/ld-linux-x86-64.so.2" --library-path "$toolchain/lib" "$@"
 }

@@ -24,22 +24,46 @@ try() { # NAME COMMAND...
 # This takes a second, so it comes first.
 try "what the documents name" sh tests/statements.sh
 
-# All that rt ci writes goes on at once, but for its last line, which is held back.
+# All that rt ci writes goes on at once, but for its last line, which is held back. The line that says what it comes to is kept too.
 hold_last() {
     held=''
+    : >"$room/ok"
     while IFS= read -r line; do
         [ -z "$held" ] || printf '%s\n' "$held"
         held=$line
+        case $line in 'rt: ok'*) printf '%s\n' "$line" >>"$room/ok" ;; esac
     done
     printf '%s\n' "$held" >"$room/last"
 }
+there_is crates/*/out/rlib || : >"$room/none_before"
 { rt ci 2>&1; echo "$?" >"$room/status"; } | hold_last
 verdict=$(cat "$room/last")
-if [ "$(cat "$room/status")" -ne 0 ]; then
+case $verdict in
+[0-9]*' passed, '[0-9]*' failed')
+    passed=$((passed + ${verdict%% passed,*}))
+    verdict=${verdict##* passed, }
+    failed=$((failed + ${verdict% failed}))
+    ;;
+*)
     printf '%s\n' "$verdict"
+    failed=$((failed + 1))
+    ;;
+esac
+if [ "$(cat "$room/status")" -ne 0 ]; then
+    echo "$passed passed, $failed failed"
     exit 1
 fi
-passed=$((passed + ${verdict%% passed,*}))
+[ ! -f "$room/none_before" ] || note_proved
+
+# An edit that cannot be applied or read is bad: it fails nothing in rt ci and is not in its count, so it would be tried no more, and nobody would see it.
+all_edits_tried() {
+    case $(cat "$room/ok") in
+    'rt: ok'*', '[0-9]*' bad'*) return 1 ;;
+    'rt: ok'*) return 0 ;;
+    *) return 1 ;;
+    esac
+}
+try "every edit is tried" all_edits_tried
 
 try "the library" make --no-print-directory lib
 

@@ -64,6 +64,11 @@ over() {
     awk -F '\t' -v OFS='\t' "$shared$program" "$@"
 }
 
+# kept WORDS...: the files and folders of crates/ that find has by these words, but for what rt makes there, which holds copies of the others
+kept() {
+    find crates -path 'crates/*/out' ! -path 'crates/*/*/out' -prune -o "$@" -print
+}
+
 # rows DOCUMENT: the rows of its tables, as section, heads of the columns, folder that the heads or the line above the table name, where, and the cells
 rows() {
     awk "$shared"'
@@ -90,7 +95,7 @@ marks() {
 
 # Each signature 'NAME :' of the definitions and the proofs, as file, name, where, and pub, field (a public one of a public record) or other.
 signatures() {
-    find crates -name '*.antt' | sort | xargs awk "$shared"'
+    kept -name '*.antt' | sort | xargs awk "$shared"'
         FNR == 1 { record = 0 }
         { here = match($0, /[^ ]/) }
         here == 0 || /^ *--/ { next }
@@ -104,7 +109,7 @@ signatures() {
 # Each declaration that has relations among the names of its unfolding lines, as file, name and where. Its signature is the last line above that is indented
 # as the unfolding is; the names may go on in lines that are indented more.
 opening() {
-    find crates -name '*.antt' | sort | xargs awk "$shared"'
+    kept -name '*.antt' | sort | xargs awk "$shared"'
         FNR == 1 { split("", declared); names = "" }
         { here = match($0, /[^ ]/) }
         here == 0 || /^ *--/ { next }
@@ -147,27 +152,48 @@ functions() {
     over '$3 ~ /^[a-z0-9_]+::/ { print "function " callee($3), $2, "the tree" }' "$room/marks" >>"$room/references"
 }
 
-# The functions that the code of each crate names of other crates, as things.
+# The functions that the code of each crate names of other crates, as things. An import names each that it has in braces, and may go on in further lines.
 named_functions() {
-    find crates -path '*/src/*' -name '*.rt' | xargs awk '
-        { split(FILENAME, part, "/"); sub(/\/\/.*/, "") }
-        {
-            while (match($0, /[a-z0-9_]+(::[a-z0-9_]+)+/)) {
-                name = substr($0, RSTART, RLENGTH)
-                $0 = substr($0, RSTART + RLENGTH)
+    kept -path '*/src/*' -name '*.rt' | xargs awk '
+        # what a list of an import names after the path that stands before its braces
+        function listed(before, list,    i, c, depth, item) {
+            list = list ","
+            for (i = 1; i <= length(list); i++) {
+                c = substr(list, i, 1)
+                if (c == "{") depth++
+                if (c == "}") depth--
+                if (c != "," || depth > 0) { item = item c; continue }
+                gsub(/^ +| +$/, "", item)
+                if (match(item, /\{/)) listed(before substr(item, 1, RSTART - 1), substr(item, RSTART + 1, length(item) - RSTART - 1))
+                else named(before item)
+                item = ""
+            }
+        }
+        function named(text,    name) {
+            while (match(text, /[a-z0-9_]+(::[a-z0-9_]+)+/)) {
+                name = substr(text, RSTART, RLENGTH)
+                text = substr(text, RSTART + RLENGTH)
                 if (index(name, part[2] "::") != 1) print "function " name
             }
         }
+        { split(FILENAME, part, "/"); sub(/\/\/.*/, "") }
+        sub(/^ *(pub(\([a-z]+\))? +)?use +/, "") { import = 1; text = "" }
+        !import { named($0); next }
+        { text = text $0 }
+        sub(/;.*/, "", text) { listed("", text); import = 0 }
     '
 }
 
-# Each public function is named in the code of another crate: what is not could be private to its own.
+# Each public function is named in the code of another crate: what is not could be private to its own. No crate can name those of a static library, which are for C.
 needed() {
     named_functions >"$room/named"
+    sed -n 's/^\([a-z0-9_]*\) staticlib:.*/\1/p' crates.txt >"$room/for_c"
     over '
         FILENAME == ARGV[1] { named[$1]; next }
-        !($1 in named) { print $2 ": " $1 " is public, and no other crate names it" }
-    ' "$room/named" "$room/public" >>"$room/differences"
+        FILENAME == ARGV[2] { named_by_c["function " $1]; next }
+        { split($1, part, "::") }
+        !($1 in named) && !(part[1] in named_by_c) { print $2 ": " $1 " is public, and no other crate names it" }
+    ' "$room/named" "$room/for_c" "$room/public" >>"$room/differences"
 }
 
 # Each row of a function names theorems of its crate's proofs/Determined, and each public one of these is named in a row of the crate.
@@ -188,7 +214,7 @@ determined() {
 # these, or stands in a file that the same cell names.
 demands() {
     over '
-        $1 ~ /^crates\/demands\/proofs\/(Arities|Contracts|Demands|Openings|Places|Refuted|Texts)\.antt$/ && $4 == "pub" || $1 ~ /^crates\/demands\/specs\/(Arities|Openings|Places|Sentences|Texts)\.antt$/ && $4 == "field" {
+        $1 ~ /^crates\/(demands\/proofs\/(Arities|Contracts|Demands|Openings|Places|Refuted|Texts)|talung_c\/proofs\/Contracts)\.antt$/ && $4 == "pub" || $1 ~ /^crates\/demands\/specs\/(Arities|Openings|Places|Sentences|Texts)\.antt$/ && $4 == "field" {
             print "theorem " $2 " of the demands", $3, "docs/STATEMENTS.md"
         }
     ' "$room/signatures" >>"$room/tree"
@@ -228,7 +254,7 @@ laws() {
 # Each edit that is refused is named in a row of a function of its crate, or in its crate's row in the table of crates, and each edit that is named is there.
 # Functions, files and crates that stand in the same cells are no edits.
 edits() {
-    find crates -path '*/must-fail/*.edit' | awk -F / '
+    kept -path '*/must-fail/*.edit' | awk -F / '
         { name = $4; sub(/\.edit$/, "", name); print "edit " name " of " $2 "\t" $0 "\tdocs/STATEMENTS.md" }
     ' >>"$room/tree"
     over '
@@ -245,7 +271,7 @@ edits() {
 
 # Each file that is named is there, and each file of definitions of rules, trees, clauses and demands is named.
 named_files() {
-    find crates docs tests | awk '
+    { kept; find docs tests; } | awk '
         { due = /^crates\/(rules|trees|clauses|demands)\/specs\/.*\.antt$/ && !/\/Lib\.antt$/ }
         { print "file " $0 "\t" $0 "\t" (due ? "docs/STATEMENTS.md" : "-") }
     ' >>"$room/tree"

@@ -29,20 +29,6 @@ the narrowed pair of a try not on it: choosing/try_struck_at_a_board_and_itself
 room=$(mktemp -d) || die "no temporary folder"
 trap 'rm -rf "$room"' EXIT
 
-# 'rt try' makes a program without proof and leaves nothing of it, so it is given a kit whose linker leaves a copy. All else in that kit leads to this one.
-links_but() { # NAME FROM TO: to all that is in a folder, but for that name
-    mkdir -p "$3"
-    ln -s "$2"/* "$3"
-    rm "$3/$1"
-}
-its_own=$room/kit/on/$(uname -m)
-links_but on "$kit" "$room/kit"
-links_but toolchain "$own" "$its_own"
-links_but bin "$toolchain" "$its_own/toolchain"
-links_but ld.lld "$toolchain/bin" "$its_own/toolchain/bin"
-printf '#!/bin/sh\n"%s" "$@" && cp program "%s"\n' "$toolchain/bin/ld.lld" "$room/program" >"$its_own/toolchain/bin/ld.lld"
-chmod +x "$its_own/toolchain/bin/ld.lld"
-
 copy_source() { # CRATE: into the room, without its proofs and its cases
     rm -rf "$room/crates/$1"
     mkdir -p "$room/crates/$1"
@@ -78,21 +64,92 @@ apply() { # CRATE/EDIT: as rt does; a line 'file:' holds for the pairs 'old:' an
     done <"$(edit_file "$1")"
 }
 
-# Makes the program of the sources in the room. rt try links it three ways before it runs it, here on no cases and not for what comes of that; so on a machine of any
-# kind the last of them is left, which traps where something that the compiler assumes does not hold.
-build() {
-    rm -f "$room/program"
-    (cd "$room" && RATTLE_HOME=$room/kit rt try cases) >"$room/log" 2>&1 || [ -f "$room/program" ] || {
+# The cases are given to the program in parts of so many, since rt gives no answers of a run that traps or does not end. A part may take so many seconds. The slowest
+# part of the sources as they stand, which has searches of 10,000 tries, takes some 20.
+cases_of_a_part=128
+seconds=100
+
+# Cuts a file of cases into files of so many cases each, named by rising numbers. A case is four numbers of 32 bits, of which the first is its call and the last two
+# are how many words and cells it has; then come the words, of two bytes, or for calls 5 and 6 of one; then the cells, of one byte.
+cut_cases() { # FILE FOLDER NUMBER
+    rm -rf "$2"
+    mkdir "$2"
+    od -A n -v -t u1 "$1" | awk -v number="$3" '
+        function front(i) { return byte[i] + 256 * (byte[i + 1] + 256 * (byte[i + 2] + 256 * byte[i + 3])) }
+        function part() { printf "%06d %d %d\n", ++parts, begins, length_of_part; begins += length_of_part; length_of_part = cases = 0 }
+        {
+            for (i = 1; i <= NF; i++) {
+                byte[++at] = $i
+                if (at == 16) ends = 16 + front(9) * (front(1) == 5 || front(1) == 6 ? 1 : 2) + front(13)
+                if (at < 16 || at < ends) continue
+                length_of_part += at
+                at = 0
+                if (++cases == number) part()
+            }
+        }
+        END { if (cases) part() }' |
+        while read -r name begins length; do
+            tail -c "+$((begins + 1))" "$1" | head -c "$length" >"$2/$name"
+        done
+}
+
+# Makes the program of the sources in the room without proof, and has it answer each file of cases of a folder, up to the first that it does not answer as a whole.
+# The answers go to the file 'answers' of the room, without those of that file, and its name and how it ends to the file 'ended'. With its last word rt says that a
+# file was answered; of one that was not it gives no answer. One step is enough for what rt would run besides, slowly and not for long.
+run_cases() { # FOLDER
+    : >"$room/log"
+    (cd "$room/crates/cases" && exec rt try --steps 1 --seconds "$seconds" --cases "$1") >"$room/given" 2>"$room/log" &
+    run=$!
+    while kill -0 "$run" 2>/dev/null; do
+        unanswered >"$room/ended"
+        if [ -s "$room/ended" ]; then
+            kill "$run" 2>/dev/null || :
+            break
+        fi
+        sleep 1
+    done
+    wait "$run" || :
+    unanswered >"$room/ended"
+    grep -q '^case=' "$room/log" || return 1
+    # what a file was answered stands below its name
+    awk -v unanswered="$(cut -d ' ' -f 1 "$room/ended")" '/^== [0-9]+$/ { before = unanswered == "" || $2 < unanswered; next } before' "$room/given" >>"$room/answers"
+}
+
+unanswered() { # the first file of the log that was not answered, and how it ended
+    awk -v seconds="$seconds" '
+        /^case=/ && !/ run=ended status=0 / {
+            sub(/^case=/, "")
+            if ($2 == "run=fault") how = "a trap"
+            else if ($2 == "run=no-answer") how = "no end in " seconds " seconds"
+            else how = "an end, with " $3
+            print $1, how
+            exit
+        }' "$room/log"
+}
+
+# Has the program of the sources in the room answer the stored cases. What is wrong goes to the file 'wrong' of the room: nothing, if all is answered as stored.
+answer() {
+    : >"$room/answers"
+    run_cases "$room/parts" || run_cases "$room/parts" || {
         cat "$room/log" >&2
         return 1
     }
-}
-
-# Has the program answer the stored cases. What is wrong goes to the file 'wrong' of the room: nothing, if all is answered as stored.
-answer() { # SECONDS
-    status=0
-    timeout "$1" sh tools/run.sh "$room/program" <crates/cases/stdin >"$room/answers" 2>"$room/log" || status=$?
-    awk -v status="$status" -v seconds="$1" '
+    ends='' where=''
+    if [ -s "$room/ended" ]; then
+        read -r part ends <"$room/ended"
+        where="in the $cases_of_a_part cases from"
+        cut_cases "$room/parts/$part" "$room/part" 1
+        cp "$room/answers" "$room/before"
+        run_cases "$room/part" || run_cases "$room/part" || return 1
+        if [ -s "$room/ended" ]; then
+            read -r part ends <"$room/ended"
+            where='in case'
+        else
+            # none of these cases alone
+            mv "$room/before" "$room/answers"
+        fi
+    fi
+    awk -v ends="$ends" -v where="$where" '
         # an answer begins with the name of its call, and goes on in lines that begin otherwise
         /^(read|open|close|search|check|site|typed|texted)( |$)/ { count[FILENAME]++ }
         { answer[FILENAME, count[FILENAME]] = answer[FILENAME, count[FILENAME]] $0 "\n" }
@@ -106,10 +163,8 @@ answer() { # SECONDS
                 if (!by[word[1]]++) call[++calls] = word[1]
             }
             for (i = 1; i <= calls; i++) of = of (i == 1 ? "" : ", ") call[i] " " by[call[i]]
-            if (status == 124) ends = "no end in " seconds " seconds"
-            else if (status > 128) ends = "a trap"
-            else if (status || answered != all) ends = "an end, with status " status
-            if (ends != "") print ends " in case " answered + 1 " of " all (wrong ? "; answered otherwise before it: " wrong " (" of ")" : "")
+            if (ends == "" && answered != all) { ends = "an end"; where = "in case" }
+            if (ends != "") print ends " " where " " answered + 1 " of " all (wrong ? "; answered otherwise before it: " wrong " (" of ")" : "")
             else if (wrong) print wrong " of " all " cases answered otherwise (" of ")"
         }' crates/cases/stdout "$room/answers" >"$room/wrong"
 }
@@ -121,17 +176,14 @@ try() { # CRATE/EDIT
     elif ! apply "$1"; then
         printf '%s: does not fit the source\n' "$1"
         worst=2
-    elif ! build; then
+    elif ! answer; then
         printf '%s: could not be built\n' "$1"
         worst=2
+    elif [ -s "$room/wrong" ]; then
+        printf '%s: %s\n' "$1" "$(cat "$room/wrong")"
     else
-        answer "$limit"
-        if [ -s "$room/wrong" ]; then
-            printf '%s: %s\n' "$1" "$(cat "$room/wrong")"
-        else
-            printf '%s: ALL CASES ANSWERED AS STORED\n' "$1"
-            [ "$worst" -ne 0 ] || worst=1
-        fi
+        printf '%s: ALL CASES ANSWERED AS STORED\n' "$1"
+        [ "$worst" -ne 0 ] || worst=1
     fi
     copy_source "${1%%/*}"
 }
@@ -145,17 +197,15 @@ for name; do
     esac
 done
 
-# The sources as they stand answer as stored, or the edits would show nothing. An edit has five times as long.
+# The sources as they stand answer as stored, or the edits would show nothing.
 cp crates.txt "$room/"
 for folder in crates/*/src; do
     crate=${folder%/src}
     copy_source "${crate#*/}"
 done
-build || die "the program could not be made without proof"
-began=$(date +%s)
-answer 600
+cut_cases crates/cases/stdin "$room/parts" "$cases_of_a_part"
+answer || die "the program could not be made without proof"
 [ ! -s "$room/wrong" ] || die "the sources as they stand: $(cat "$room/wrong")"
-limit=$((5 * ($(date +%s) - began + 1)))
 
 for name; do
     case $name in

@@ -9,7 +9,8 @@
  *    is ever NULL, not even where the length is 0.
  *  - What is lent to a call does not overlap, and nothing else writes it during the call, nor reads what the call writes.
  *
- * To link: this header and libtalung.a, for x86-64 Linux. C99 or later, or C++. Of the C library it uses memcpy and memset alone. */
+ * To link: this header and libtalung.a, for Linux on processors of level x86-64-v2 and above. C99 or later, or C++. Of the C library it uses memcpy and memset
+ * alone. */
 #ifndef TALUNGBISAY_H
 #define TALUNGBISAY_H
 

@@ -184,7 +184,8 @@ named_functions() {
     '
 }
 
-# Each public function is named in the code of another crate: what is not could be private to its own. No crate can name those of a static library, which are for C.
+# Each public function is named in the code of another crate: what is not could be private to its own. No crate can name those of a static library, which are
+# for C.
 needed() {
     named_functions >"$room/named"
     sed -n 's/^\([a-z0-9_]*\) staticlib:.*/\1/p' crates.txt >"$room/for_c"

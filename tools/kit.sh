@@ -1,5 +1,5 @@
-# What the scripts share, to be sourced at the top of the repository: where the Rattle kit is, and how the library or a program is built of the crates, something is
-# built alone, a C file compiled and a program linked. All that is built is for x86-64 Linux, as the kit is, and runs by itself.
+# What the scripts share, to be sourced at the top of the repository: where the Rattle kit is, and how the library or a program is built of the crates, something
+# is built alone, a C file compiled and a program linked. All that is built is for x86-64 Linux, as the kit is, and runs by itself.
 
 die() { # WORDS...: something could not be built
     printf '%s: %s\n' "${0##*/}" "$*" >&2
@@ -18,8 +18,8 @@ alone() { # COMMAND...: while nothing else is built here, since two builds at on
     (flock 9 && "$@") 9<.
 }
 
-# What rt ci proved it leaves in crates/*/out, and other commands of rt do not take it: they would prove all of it once more. It does not say of which sources it is,
-# and where libraries stood there before, these stand there again after it. So after a run that found none and passed, the sum of the sources is noted; and a library
+# What rt ci has proved it leaves in crates/*/out, and other commands of rt do not take it: they prove it once more. Nothing there says which sources it is of, and
+# where libraries stood there before, these stand there again after the run. So after a run that found none and passed, the sum of the sources is noted. A library
 # that another command of rt has built since has a file 'stamp' beside it.
 there_is() { # FILES...: whether a pattern of names fits any
     [ -e "$1" ]
@@ -28,7 +28,8 @@ there_is() { # FILES...: whether a pattern of names fits any
 sum_of_sources() { # of the kit and of all that the library and the programs are made of
     {
         rt version
-        find crates -path 'crates/*/out' ! -path 'crates/*/*/out' -prune -o \( -name '*.rt' -o -name '*.antt' \) -print | LC_ALL=C sort | xargs sha256sum crates.txt
+        find crates -path 'crates/*/out' ! -path 'crates/*/*/out' -prune -o \( -name '*.rt' -o -name '*.antt' \) -print |
+            LC_ALL=C sort | xargs sha256sum crates.txt
     } | sha256sum
 }
 

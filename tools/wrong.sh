@@ -64,13 +64,13 @@ apply() { # CRATE/EDIT: as rt does; a line 'file:' holds for the pairs 'old:' an
     done <"$(edit_file "$1")"
 }
 
-# The cases are given to the program in parts of so many, since rt gives no answers of a run that traps or does not end. A part may take so many seconds. The slowest
-# part of the sources as they stand, which has searches of 10,000 tries, takes some 20.
+# The cases are given to the program in parts of so many, since rt gives no answers of a run that traps or does not end. A part may take so many seconds. With the
+# sources as they stand the slowest, which has searches of 10,000 tries, takes some 20.
 cases_of_a_part=128
 seconds=100
 
-# Cuts a file of cases into files of so many cases each, named by rising numbers. A case is four numbers of 32 bits, of which the first is its call and the last two
-# are how many words and cells it has; then come the words, of two bytes, or for calls 5 and 6 of one; then the cells, of one byte.
+# Cuts a file of cases into files of so many cases each, named by rising numbers. A case is four numbers of 32 bits, of which the first is its call and the last
+# two are how many words and cells it has; then come the words, of two bytes, or for calls 5 and 6 of one; then the cells, of one byte.
 cut_cases() { # FILE FOLDER NUMBER
     rm -rf "$2"
     mkdir "$2"
@@ -94,8 +94,8 @@ cut_cases() { # FILE FOLDER NUMBER
 }
 
 # Makes the program of the sources in the room without proof, and has it answer each file of cases of a folder, up to the first that it does not answer as a whole.
-# The answers go to the file 'answers' of the room, without those of that file, and its name and how it ends to the file 'ended'. With its last word rt says that a
-# file was answered; of one that was not it gives no answer. One step is enough for what rt would run besides, slowly and not for long.
+# The answers go to the file 'answers' of the room, without those of that file, and its name and how it ends to the file 'ended'. rt would have an interpreter run
+# each file too, which is slow: with one step it leaves that.
 run_cases() { # FOLDER
     : >"$room/log"
     (cd "$room/crates/cases" && exec rt try --steps 1 --seconds "$seconds" --cases "$1") >"$room/given" 2>"$room/log" &
@@ -110,9 +110,13 @@ run_cases() { # FOLDER
     done
     wait "$run" || :
     unanswered >"$room/ended"
-    grep -q '^case=' "$room/log" || return 1
+    # where it ran to the end, rt counts the files
+    [ -s "$room/ended" ] || grep -q '^cases=' "$room/log" || return 1
     # what a file was answered stands below its name
-    awk -v unanswered="$(cut -d ' ' -f 1 "$room/ended")" '/^== [0-9]+$/ { before = unanswered == "" || $2 < unanswered; next } before' "$room/given" >>"$room/answers"
+    awk -v last="$(cut -d ' ' -f 1 "$room/ended")" '
+        /^== [0-9]+$/ { before = last == "" || $2 < last; next }
+        before
+    ' "$room/given" >>"$room/answers"
 }
 
 unanswered() { # the first file of the log that was not answered, and how it ended

@@ -10,6 +10,7 @@ ghost use Rattle.arities.specs.Arities.{differ, WithinWords, SomeFirst, WithFirs
 use kinds::{KindLine, kind_at};
 
 // Tells whether two lines have one code and different numbers of ways.
+#[tactic(auto, using(crate::proofs::Comparing::codes_apart, crate::proofs::Comparing::codes_same))]
 fn disagree(line: KindLine, other: KindLine) -> bool
     requires { (line.first ≤ line.end) × (other.first ≤ other.end) }
     ensures { result ≡ differ line other }

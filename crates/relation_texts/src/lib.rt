@@ -118,6 +118,7 @@ fn keep(codes: &mut [u16], depths: &mut [usize], count: usize, symbol: u32, dept
 }
 
 // The board after the expression ends the line.
+#[tactic(auto, using(crate::proofs::Lasts::last_more, symbols::proofs::Steps::stepped))]
 fn last_board(
     line: &[u8],
     at: usize,

@@ -3,7 +3,6 @@ use mathlib.Core.Path.{◌∙◌}
 use Rattle.rules.proofs.Tests.{tested}
 use Rattle.headers.proofs.Headings.{header_short, header_no_boards, header_no_lines, header_no_kinds, header_no_first, header_no_kinds_at, header_no_total, header_read}
 use Rattle.headers.proofs.read_header.Goals as goal
-use Rattle.headers.proofs.read_header.Goals.{then-boards-lt1-via-else-boards-lt1+then-boards-gt-MOST_BOARDS, then-boards-lt1-via-then-boards-lt1, then-kinds_at-lt-HEADER_WORDS-via-else-kinds_at-lt-HEADER_WORDS+then-total-kinds_at, then-kinds_at-lt-HEADER_WORDS-via-then-kinds_at-lt-HEADER_WORDS}
 
 pub returns-then-words-lt-HEADER_WORDS : goal.returns-then-words-lt-HEADER_WORDS
 returns-then-words-lt-HEADER_WORDS c =
@@ -12,7 +11,7 @@ returns-then-words-lt-HEADER_WORDS c =
 pub returns-then-boards-lt1 : goal.returns-then-boards-lt1
 returns-then-boards-lt1 c =
     c.refused-then-boards-lt1.ensures
-    ∙ header_no_boards c.args.words.now (omega tested) (λ low high. (elim c.then-boards-lt1.branch [ then-boards-lt1-via-then-boards-lt1 w ↦ omega tested | then-boards-lt1-via-else-boards-lt1+then-boards-gt-MOST_BOARDS w ↦ omega tested ]))
+    ∙ header_no_boards c.args.words.now (omega tested) (λ low high. omega tested)
 
 pub returns-then-lines-gt-MOST_LINES : goal.returns-then-lines-gt-MOST_LINES
 returns-then-lines-gt-MOST_LINES c =
@@ -31,7 +30,7 @@ pub returns-then-kinds_at-lt-HEADER_WORDS : goal.returns-then-kinds_at-lt-HEADER
 returns-then-kinds_at-lt-HEADER_WORDS c =
     c.refused-then-kinds_at-lt-HEADER_WORDS.ensures ∙ header_no_kinds_at c.args.words.now
     (record { six = omega tested; some = omega tested; boards = omega tested; lines = omega tested; kinds = omega tested }) (omega tested)
-    (λ after before. (elim c.then-kinds_at-lt-HEADER_WORDS.branch [ then-kinds_at-lt-HEADER_WORDS-via-then-kinds_at-lt-HEADER_WORDS w ↦ omega tested | then-kinds_at-lt-HEADER_WORDS-via-else-kinds_at-lt-HEADER_WORDS+then-total-kinds_at w ↦ omega tested ]))
+    (λ after before. omega tested)
 
 pub returns-then-total-words : goal.returns-then-total-words
 returns-then-total-words c =

@@ -8,7 +8,6 @@ use Rattle.rules.proofs.Lines.{relation_short, relation_no_length, relation_past
 use Rattle.lines.specs.declared.FrontFound.{FrontFound}
 use Rattle.lines.specs.Found.{refused_front, FrontTells}
 use Rattle.lines.proofs.front.Goals as goal
-use Rattle.lines.proofs.front.Goals.{then-n-lt1-via-else-n-lt1+then-n-gt-MOST_EXPRESSION_WORDS, then-n-lt1-via-then-n-lt1}
 
 -- a refusal tells of the line that it is refused so
 refuses : (v : ℕ) (ws : List ℕ) {n k : ℕ} {r : FrontFound} → r ≡ refused_front n k → relation_line v ws ≡ refused n k → FrontTells v ws r
@@ -23,7 +22,7 @@ pub returns-then-n-lt1 : goal.returns-then-n-lt1
 returns-then-n-lt1 c =
     refuses c.args.v c.args.words.now c.refused-then-n-lt1.ensures
     (relation_no_length c.args.v c.args.words.now (omega tested)
-    (λ low high. (elim c.then-n-lt1.branch [ then-n-lt1-via-then-n-lt1 w ↦ omega tested | then-n-lt1-via-else-n-lt1+then-n-gt-MOST_EXPRESSION_WORDS w ↦ omega tested ])))
+    (λ low high. omega tested))
 
 pub returns-then-words-n : goal.returns-then-words-n
 returns-then-words-n c =

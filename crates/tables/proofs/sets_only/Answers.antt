@@ -1,8 +1,6 @@
 -- `sets_only` meets its contract: what it tells is true of the cells passed. The measure is the cells left. Assumes nothing.
-use mathlib.Core.Path.{sym, subst}
-use Prim.Native.Nat.{◌+◌}
 use native.Mathlib.Omega.{arith}
-use Rattle.tables.proofs.Shapes.{SetsTo, sets_start, sets_more, sets_not, sets_told}
+use Rattle.tables.proofs.Shapes.{sets_start, sets_more, sets_not, sets_told}
 use Rattle.tables.proofs.sets_only.Goals as goal
 use Rattle.tables.proofs.sets_only.Goals.{else-table-i-gt-FULL, then-table-i-gt-FULL}
 
@@ -16,12 +14,7 @@ pub loop-i-smaller : goal.loop-i-smaller
 loop-i-smaller c = omega (arith, c.loop-i-test.true)
 
 pub loop-i-preserved : goal.loop-i-preserved
-loop-i-preserved c =
-    let table = c.args.table.now in
-    let loop = c.loop-i in (
-      omega (arith, c.loop-i-test.true),
-      (elim c.if-table-i-gt-FULL.branch [ then-table-i-gt-FULL w ↦ subst (SetsTo table (loop.i + 1)) (sym w.sets-is) (sets_not table loop.i w.if-table-i-gt-FULL.true) | else-table-i-gt-FULL w ↦ subst (SetsTo table (loop.i + 1)) (sym w.sets-is) (sets_more table loop.i loop.sets loop.invariant.1 (omega (arith, w.if-table-i-gt-FULL.false))) ]),
-    )
+loop-i-preserved c = (omega arith, grind (arith, sets_not, sets_more))
 
 pub returns : goal.returns
 returns c =

@@ -2,7 +2,6 @@
 use native.Mathlib.Omega.{arith}
 use Rattle.tables.proofs.Shapes.{sets_start, sets_more, sets_not, sets_told}
 use Rattle.tables.proofs.sets_only.Goals as goal
-use Rattle.tables.proofs.sets_only.Goals.{else-table-i-gt-FULL, then-table-i-gt-FULL}
 
 pub loop-i-init : goal.loop-i-init
 loop-i-init c = (omega arith, sets_start c.args.table.now)

@@ -1,5 +1,6 @@
 -- Well-formed tables by the tests that the code makes, and how many cells there are. Assumes nothing.
-use mathlib.Core.Path.{◌≡◌, sym, ap, ◌∙◌}
+use mathlib.Core.Path.{◌≡◌, sym, ap, ◌∙◌, subst}
+use mathlib.Core.Logic.{⊎_elim}
 use mathlib.Core.Bool.{Bool, true, false, ◌&&◌}
 use mathlib.Core.List.{List}
 use Prim.Native.Nat.{ℕ, ◌+◌, ◌*◌, ◌≤◌, ◌<◌}
@@ -7,6 +8,7 @@ use native.Mathlib.Nat.{mul-le-mul_right}
 use native.Mathlib.Omega.{arith}
 use borrow.Author.Count.{below_more}
 use borrow.Author.Tests.{eq-eqb, ne_eqb}
+use Rattle.std.proofs.lemmas.Bool.{cases_lt}
 use lib.Dec.{ltb, lt→ltb, ltb→lt}
 use lib.ListN.{length, get_or, take, replicate, length-replicate}
 use lib.Seq.{length-take-le}
@@ -53,6 +55,12 @@ module _ (t : List ℕ) where
 
   pub sets_not : (i : ℕ) → 15 < get_or t i 0 → SetsTo t (i + 1) false
   sets_not i h = (i, omega arith, h)
+
+  -- what is told after a cell more: false past the sets, and else what was told
+  pub sets_next : (i : ℕ) (b d : Bool) → SetsTo t i b → (15 < get_or t i 0 → d ≡ false) → (get_or t i 0 ≤ 15 → d ≡ b) → SetsTo t (i + 1) d
+  sets_next i b d f past within =
+      ⊎_elim (λ l. subst (SetsTo t (i + 1)) (sym (past l)) (sets_not i l)) (λ l. subst (SetsTo t (i + 1)) (sym (within l)) (sets_more i b f l))
+      (cases_lt 15 (get_or t i 0))
 
   pub sets_told : (i : ℕ) → i ≤ length t → length t ≤ i → (b : Bool) → SetsTo t i b → b ≡ each_of (λ x. ltb x set_limit) t
   unfolding relations

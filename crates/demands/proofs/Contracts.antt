@@ -46,7 +46,6 @@ use Rattle.listing.proofs.unread.Reads as unread
 use Rattle.listing.proofs.unread.Statement as unread_stated
 use Rattle.listing.proofs.unread.Met as unread_met
 use Rattle.demands.specs.Entries.{Reads, Opening, Closing, Searching, Checking, ReadingText, WritingText}
-use Rattle.demands.proofs.Rooms.{from_text_few, to_text_few}
 
 -- ---- whatever is lent
 

@@ -1,5 +1,5 @@
 -- What the code's contracts ask and teach, by the kit's own record of them: each function that is called from outside asks nothing, ends and does nothing
--- undefined, and what is learnt of a call is what the demands are said of (`Entries`). Assumes nothing.
+-- undefined, and what is learnt of a call is what the demands are said of (`Entries`). The calls for C have the same in `talung_c`. Assumes nothing.
 use mathlib.Core.Path.{◌≡◌}
 use Rattle.rules.specs.Search.{plain_order}
 use Rattle.contracts.specs.Promises.{AsksNothing, Teaches}

@@ -1,4 +1,4 @@
-// The calls for C: numbers and lent slices, with the answer packed in one number.
+// The calls for C, as `talung_c` exports them: numbers and lent slices, with the answer packed in one number.
 #![tactic(auto)]
 
 ghost use Rattle.std.specs.Prelude.{◌≡◌};

@@ -149,6 +149,7 @@ fn operands_of(counts: &[u8; CODES], word: usize) -> u32
 }
 
 // Tells whether the words are one whole expression, without its set: it counts the operands that are still needed. A code is one of these, and needs its own.
+#[tactic(auto, using(crate::proofs::Scanning::needing_none, crate::proofs::Scanning::needing_some))]
 pub fn scan(words: &[u16]) -> Scanned
     requires { length words.now ≤ most_expression_words }
     ensures { result ≡ scan_found (expression words.now) }

@@ -7,6 +7,7 @@ use borrow.Author.Tests.{eqb-true, eqb-false, not-true, not-false}
 use lib.ListN.{length, get_or, take, drop}
 use mathlib.Core.Path.{◌≡◌, sym, ap, subst, ◌∙◌}
 use mathlib.Core.List.{List}
+use Rattle.rules.proofs.Tests.{tested}
 use Rattle.rules.specs.Relations.{set_limit}
 use Rattle.rules.specs.Expressions.{codes, code}
 use Rattle.rules.proofs.Parts.{tail, tail_length}
@@ -83,7 +84,7 @@ module _ (t : ℕ) (c : AtCode t) where
 
   listed : word < length codes
   unfolding codes
-  listed = c.if-word-ge-CODES.false
+  listed = omega tested
 
   -- how many operands it takes: none, or two less the bit of the codes with one
   takes_none : c.among.result ≡ false → operands (code word) ≡ 0
@@ -160,7 +161,7 @@ returns-then-word-ge-CODES t c =
     evaluation.finds_unknown (words t c.before.before) (some t c.before.before) (front t c.before.before ∙ no_code c.word_number-word.result c.if-word-ge-CODES.true)
 
 pub among-requires : goal.among-requires
-among-requires t c = omega (arith, c.if-word-ge-CODES.false)
+among-requires t c = omega arith
 
 pub set_of-requires : goal.set_of-requires
 set_of-requires t c = (listed t c.before.before, takes_none t c.before.before (not-true _ c.if-not-among.true-raw))
@@ -191,7 +192,7 @@ returns-in_default t c =
     (lent 1 (words t head) _ (sym c.in_default.is ∙ c.evaluate-first.ensures))
 
 pub among-requires-2 : goal.among-requires-2
-among-requires-2 t c = omega (arith, (before-first t c.before).if-word-ge-CODES.false)
+among-requires-2 t c = omega arith
 
 pub apply_one-requires : goal.apply_one-requires
 apply_one-requires t c =

@@ -7,7 +7,7 @@ use lib.ListN.{length}
 use Rattle.rules.specs.Expressions.{codes}
 use Rattle.rules.proofs.Tests.{tested}
 use Rattle.expressions.proofs.Codes.{takes_few}
-use Rattle.expressions.proofs.Scanning.{needing_one, needing_over, needing_unknown, needing_next, needing_none, needing_some}
+use Rattle.expressions.proofs.Scanning.{needing_one, needing_over, needing_unknown, needing_next}
 use Rattle.expressions.proofs.scan.Goals as goal
 use Rattle.expressions.proofs.scan.Goals.{then-needed-eq0-via-else-needed-eq0+then-word-ge-CODES, then-needed-eq0-via-then-needed-eq0}
 
@@ -46,11 +46,3 @@ loop-i-preserved c =
     let next = needing_next c.args.words.now c.loop-i.i (omega arith) c.loop-i.needed word c.if-needed-eq0.false
     c.word_number-word.ensures listed in
     (rw c.operands_of.ensures (next ∙ c.loop-i.invariant.0), omega (arith, c.operands_of.ensures, few), omega arith)
-
-pub returns-then-needed-eq0-2 : goal.returns-then-needed-eq0-2
-returns-then-needed-eq0-2 c =
-    sym (needing_none c.args.words.now c.loop-i.i (omega arith) c.loop-i.needed c.if-needed-eq0-2.true) ∙ c.loop-i.invariant.0
-
-pub returns-else-needed-eq0-2 : goal.returns-else-needed-eq0-2
-returns-else-needed-eq0-2 c =
-    sym (needing_some c.args.words.now c.loop-i.i (omega arith) c.loop-i.needed c.if-needed-eq0-2.false) ∙ c.loop-i.invariant.0

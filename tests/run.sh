@@ -50,6 +50,7 @@ case $verdict in
     ;;
 esac
 if [ "$(cat "$room/status")" -ne 0 ]; then
+    [ "$failed" -ne 0 ] || failed=1
     echo "$passed passed, $failed failed"
     exit 1
 fi

@@ -6,7 +6,7 @@ usage: tools/spelling.py [FOLDER..]   at the top of the repository, after the ki
                                 nothing but what was declared since.
 
 - A definition or lemma in camel case becomes snake case, wherever it stands as a word: upTo, setLimit-pos.
-- A dash in a lemma's name becomes _, but for one that joins a fact or type to a name: counted-more is counted_more, and T-true stays.
+- A dash in a lemma's name becomes _, but for one that joins a fact or type to a name: counted-more is counted_more, and T-and-left is T-and_left.
 - In specs/, clauses and edits the kit's older words become today's: eqb, ltb and leb are nat_eq, nat_lt and nat_le; get_or xs k 0 is slice_index xs k, and
   any other get_or is slice_index_or.
 - contracts/specs/Contracts becomes Promises, since Rattle makes a module specs.contracts of its own.
@@ -19,6 +19,7 @@ import re
 import sys
 
 TAKEN = {"sameBytes": "equal_bytes"}  # a name in camel case, and what it becomes where its plain form is taken
+TELLS = os.path.join("docs", "PORT.md")  # the page that tells the names of before
 LEMMAS = {"lies_within": "lies_within_lem"}  # a lemma that now has the plain name of an operator
 OLD_WORDS = {"eqb": "nat_eq", "ltb": "nat_lt", "leb": "nat_le"}
 NAME = r"[^\s(){}.;,@\"«»\[\]\\|`]+"
@@ -256,7 +257,7 @@ def main():
             write(lib, re.sub(r"mod Contracts\b", "mod Promises", read(lib)))
             changed += 2
     names = {spelling.snake(spelling.dashed.get(n, n)) for n in spelling.names}
-    for path in ["README.md", *files("docs", (".md",))]:
+    for path in ["README.md", *(path for path in files("docs", (".md",)) if path != TELLS)]:
         was = read(path)
         now = re.sub(r"`[^`\n]+`", lambda m: TOKEN.sub(lambda t: spelling.told(t[0], names), m[0]), was)
         now = re.sub(r"`contracts/specs/Contracts(`|\.antt`)", r"`contracts/specs/Promises\1", now)

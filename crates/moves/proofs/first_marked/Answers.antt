@@ -9,16 +9,11 @@ loop-p-init c = (omega arith, below_none _)
 pub bounds-marks-p : goal.bounds-marks-p
 bounds-marks-p c = let pre = c.requires in omega (arith, pre.0, pre.1.words, c.loop-p-test.true)
 
-pub returns-then-marks-p-ne0 : goal.returns-then-marks-p-ne0
-returns-then-marks-p-ne0 c =
-    let inv = c.loop-p.invariant in
-    record { most = inv.0; before = inv.1; found = λ h e. c.if-marks-p-ne0.true e }
-
 pub loop-p-smaller : goal.loop-p-smaller
 loop-p-smaller c = omega arith
 
 pub loop-p-preserved : goal.loop-p-preserved
-loop-p-preserved c = (omega (arith, c.loop-p-test.true), below_more _ _ c.loop-p.invariant.1 c.if-marks-p-ne0.false)
+loop-p-preserved c = (omega (arith, c.loop-p-test.true), below_more _ _ c.loop-p.invariant.1 (omega arith))
 
 pub returns : goal.returns
 returns c =

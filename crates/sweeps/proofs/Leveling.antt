@@ -1,6 +1,6 @@
 -- Rule 2 of two boards, of a board and those after it, and of all: one pair after the other, and what is left. Assumes nothing.
 use mathlib.Core.Path.{◌≡◌, refl, sym, ap, ◌∙◌, subst}
-use mathlib.Core.Bool.{Bool, true, false}
+use mathlib.Core.Bool.{Bool, true, false, not}
 use mathlib.Core.Logic.{⊎_elim, ◌⊎◌}
 use mathlib.Core.List.{List}
 use Prim.Native.Nat.{ℕ, ◌+◌, ◌*◌, ◌<◌}
@@ -55,6 +55,17 @@ level_not {v} {p} {q} {is} {t} r e f =
     all_full (converse_small (cell v t q p)) (subst (λ (x : ℕ). x lies_within converse (cell v t q p)) c (meet_right (cell v t p q) (converse (cell v t q p)))) in
     let there : cell v t q p ≡ full = sym (converse_converse (cell v t q p) (r.table.small _)) ∙ ap converse side ∙ turned_full in
     put_idle (here ∙ sym c) (there ∙ sym (ap converse c ∙ turned_full)) (λ z. full_some (sym c ∙ z)) (eq-eqb _ _ c)
+
+-- part by part, by what both sides allow
+-- what it leaves, part by part
+pub full_cells : (v p q : ℕ) (t : List ℕ) → Ready v t → allowed v t p q ≡ 15 → t ≡ written_both v t p q (allowed v t p q)
+full_cells v p q t r e = (level_not {m = t} r refl (e ∙ sym full_is)).cells
+
+pub full_list : (x p q : ℕ) (m : List ℕ) → x ≡ 15 → m ≡ noted (eqb x full) m p q
+full_list x p q m e = subst (λ (b : Bool). m ≡ noted b m p q) (sym (eq-eqb _ _ (e ∙ sym full_is))) refl
+
+pub full_told : (x : ℕ) → x ≡ 15 → true ≡ not (eqb x 0)
+full_told x e = subst (λ (x : ℕ). true ≡ not (eqb x 0)) (sym e) refl
 
 -- ---- one pair
 

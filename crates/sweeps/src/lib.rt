@@ -49,6 +49,7 @@ pub fn through(
 }
 
 // Rule 2 of two boards: both cells become what both sides allow. The pair is put on the list, unless all is allowed. Says whether anything is.
+#[tactic(auto, using(crate::proofs::Leveling::full_cells, crate::proofs::Leveling::full_list, crate::proofs::Leveling::full_told))]
 fn level(v: usize, p: usize, q: usize, cells: &mut [u8], marks: &mut [u32]) -> bool
     requires { Ready v cells.old × Marks v marks.old × (p < q) × (q < v) }
     ensures { Level v p q cells.old marks.old cells.new marks.new result }
@@ -78,6 +79,7 @@ fn level_row(v: usize, p: usize, cells: &mut [u8], marks: &mut [u32]) -> bool
 }
 
 // Rule 2 of every two boards, and the first list: every pair of which something is known is on it. Says whether no cell is empty.
+#[tactic(auto, using(crate::proofs::Leveling::sides_lost, crate::proofs::Leveling::diagonal_lost))]
 pub fn level_all(v: usize, cells: &mut [u8], marks: &mut [u32]) -> bool
     requires { Ready v cells.old × Marks v marks.old × Selves v cells.old }
     ensures { Leveled v cells.old cells.new marks.new result }

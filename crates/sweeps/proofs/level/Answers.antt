@@ -8,7 +8,7 @@ use Rattle.rules.proofs.Sets.{meet_small}
 use Rattle.rules.proofs.Composition.{converse_small}
 use Rattle.passes.proofs.Passes.{place_few, ready_place}
 use Rattle.moves.proofs.Striking.{put_so}
-use Rattle.sweeps.proofs.Leveling.{full_is, level_not}
+use Rattle.sweeps.proofs.Leveling.{full_is}
 use Rattle.sweeps.proofs.level.Goals as goal
 
 below : {p q v : ℕ} → p < q → q < v → p < v
@@ -38,11 +38,6 @@ bounds-cells-k c = let pre = c.requires in ready_place pre.0 (below pre.2 pre.3)
 pub meet-is-requires : goal.meet-is-requires
 meet-is-requires c = (c.requires.0.table.small _, subst (λ (x : ℕ). x < set_limit) (sym c.converse-bound.ensures) (converse_small _))
 
-pub returns-then-is-eq-FULL : goal.returns-then-is-eq-FULL
-returns-then-is-eq-FULL c =
-    let pre = c.requires in
-    level_not pre.0 (c.meet-is.ensures ∙ ap (meet _) c.converse-bound.ensures) (c.if-is-eq-FULL.true ∙ sym full_is)
-
 pub put_pair-requires : goal.put_pair-requires
 put_pair-requires c =
     let pre = c.requires in
@@ -51,4 +46,4 @@ put_pair-requires c =
 pub returns : goal.returns
 returns c =
     let kept = c.meet-is.ensures ∙ ap (meet _) c.converse-bound.ensures in
-    put_so kept (ne_eqb _ _ (λ z. c.if-is-eq-FULL.false (kept ∙ z ∙ full_is))) c.put_pair.ensures
+    put_so kept (ne_eqb _ _ (λ z. let e = kept ∙ z ∙ full_is in let n : ⊥ = omega (arith, e) in n)) c.put_pair.ensures

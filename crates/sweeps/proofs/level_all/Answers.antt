@@ -9,7 +9,7 @@ use borrow.Author.Tests.{not-true, not-false}
 use Rattle.rules.proofs.Tests.{below_suc}
 use Rattle.passes.proofs.Passes.{place_few, ready_place}
 use Rattle.sweeps.specs.Sweeps.{Levels}
-use Rattle.sweeps.proofs.Leveling.{sides_none, sides_then, sides_as, sides_lost, sides_noted, diagonal_lost}
+use Rattle.sweeps.proofs.Leveling.{sides_none, sides_then, sides_as, sides_lost, sides_noted}
 use Rattle.sweeps.proofs.level_all.Goals as goal
 
 pub loop-p-init : goal.loop-p-init
@@ -27,9 +27,6 @@ pub bounds-cells-k : goal.bounds-cells-k
 bounds-cells-k c =
     let l = c.loop-p-test.true in
     ready_place (record { boards = c.requires.0.boards; table = c.loop-p.invariant.1.table }) l l
-
-pub returns-then-cells-k-eq0 : goal.returns-then-cells-k-eq0
-returns-then-cells-k-eq0 c = sides_lost c.loop-p.invariant.1 (diagonal_lost c.loop-p-test.true c.if-cells-k-eq0.true)
 
 pub level_row-requires : goal.level_row-requires
 level_row-requires c =
@@ -49,7 +46,7 @@ loop-p-preserved c =
       omega arith,
       sides_as (λ a b h hb e. later a e)
           (sides_then inv.1 (subst (Levels _ _ _ _ _ _) (not-false c.level_row.result c.if-not-level_row.false-raw) c.level_row.ensures)),
-      below_more _ _ inv.2 (λ z. c.if-cells-k-eq0.false (inv.1.diagonal _ c.loop-p-test.true ∙ z)),
+      below_more _ _ inv.2 (λ z. let d = inv.1.diagonal _ c.loop-p-test.true ∙ z in let n : ⊥ = omega (arith, d) in n),
     )
   where
     later : {p : ℕ} (a : ℕ) → a < p + 1 → (a < p) ⊎ (a ≡ p)

@@ -18,7 +18,7 @@ use Rattle.kinds.specs.Sections.{Kinds}
 use Rattle.by_board.specs.Found.{with_panel}
 use Rattle.by_board.proofs.Asking.{panel_found, way_found}
 use Rattle.moves.specs.Watches.{feeds, feeds'}
-use Rattle.moves.specs.Moves.{Mutual, Moved, Tended, Fed, FedFor}
+use Rattle.moves.specs.Moves.{Mutual, Moved, Tended, Fed, FedFor, Went}
 use Rattle.moves.specs.Visits.{Site, Keeping, Visited}
 use Rattle.moves.proofs.Moving.{moved_none, tended_moved}
 use Rattle.moves.proofs.Reading.{feeds_honest, feeds'_honest}
@@ -76,11 +76,12 @@ module _ {v count : ℕ} {ws xs t m : List ℕ} (site : Site v count ws xs t m) 
           let (j, o, q) = panel_found site.listed ks fill k l (board_few site.table ha) d in
           (subst (λ (k : KindLine). Fed v k b n w) q (f j o)).ways i h
 
-  pub visit_panel : {lines : ℕ} → lines ≡ with_panel xs a → cell v t a b ≡ A → (w n : List ℕ) (some : Bool)
-      → Visited (Keeping rules6 v) v count ws (λ ks. FedEach v ws lines b) t m w n some → Visited (Keeping rules6 v) v count ws (λ ks. FedFor v ks a b) t m w n some
-  visit_panel {lines} d e w n some g ks fill =
+  -- as each of the kind lines that fill the words is visited
+  pub went_panel : (ks : List KindLine) → Kinds v count ws ks → cell v t a b ≡ 2 → (lines : ℕ) → lines ≡ with_panel xs a → (w n : List ℕ) (some : Bool)
+      → Went (Keeping rules6 v ks) v (FedEach v ws lines b) t m w n some → Went (Keeping rules6 v ks) v (FedFor v ks a b) t m w n some
+  went_panel ks fill e lines d w n some g =
       went_so (Keeping rules6 v ks) v (FedEach v ws lines b) (FedFor v ks a b) t m w n some
-      (λ moved f. for_panel ks fill e moved (subst (λ (x : ℕ). FedEach v ws x b n w) d f)) (g ks fill)
+      (λ moved f. for_panel ks fill e moved (subst (λ (x : ℕ). FedEach v ws x b n w) d f)) g
 
   -- none, where a may be at or above b and something else
   for_none : (ks : List KindLine) → T (reaches (cell v t a b)) → (cell v t a b ≡ A → ⊥) → FedFor v ks a b m t

@@ -123,6 +123,7 @@ fn rule6_of_ways(
 
 // Rule 6 of the kind lines that read the cell of a and b: those with a as a way, if it no longer may be at or above b, and those with the panel a, if it
 // must be above b. It sees to each, or says false.
+#[tactic(auto, using(crate::proofs::Finding::went_panel, crate::proofs::Finding::visit_none, rules::proofs::Tests::true_T))]
 pub fn rule6_for(
     v: usize,
     count: usize,

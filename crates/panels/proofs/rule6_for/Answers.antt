@@ -1,10 +1,9 @@
 -- `rule6_for` meets its contract: the kind lines that are not visited read a cell that leaves them nothing to strike. Assumes nothing.
-use mathlib.Core.Path.{sym, ◌∙◌}
+
 use native.Mathlib.Omega.{arith}
-use Rattle.rules.proofs.Tests.{true_T}
 use Rattle.passes.proofs.Passes.{place_few, ready_place}
 use Rattle.by_board.proofs.Asking.{found_numbers}
-use Rattle.panels.proofs.Finding.{visit_panel, visit_none, visit_ways}
+use Rattle.panels.proofs.Finding.{visit_ways}
 use Rattle.panels.proofs.rule6_for.Goals as goal
 
 pub overflow_mul-k : goal.overflow_mul-k
@@ -21,21 +20,10 @@ rule6_each-requires c =
     let pre = c.requires in
     (pre.0, found_numbers pre.0.listed _ c.with_panel-lines.ensures (omega (arith, pre.0.table.ready.boards, pre.1, pre.2)), pre.2)
 
-pub returns-then-x-eq-A : goal.returns-then-x-eq-A
-returns-then-x-eq-A c =
-    let pre = c.requires in
-    visit_panel pre.0 pre.1 pre.2 c.with_panel-lines.ensures c.if-x-eq-A.true _ _
-    c.rule6_each.result c.rule6_each.ensures
-
 pub reaches-requires : goal.reaches-requires
 reaches-requires c = c.requires.0.table.ready.table.small _
-
-pub returns-then-reaches : goal.returns-then-reaches
-returns-then-reaches c =
-    let pre = c.requires in
-    visit_none pre.0 pre.1 pre.2 (true_T (sym c.reaches.ensures ∙ c.if-reaches.true)) c.if-x-eq-A.false
 
 pub returns : goal.returns
 returns c =
     let pre = c.requires in
-    visit_ways pre.0 pre.1 pre.2 c.if-x-eq-A.false _ _ c.rule6_of_ways.result c.rule6_of_ways.ensures
+    visit_ways pre.0 pre.1 pre.2 (λ e. let n : ⊥ = omega (arith, e) in n) _ _ c.rule6_of_ways.result c.rule6_of_ways.ensures

@@ -6,13 +6,14 @@ use mathlib.Core.List.{List, Memᴰ}
 use Prim.Native.Nat.{ℕ, ◌^◌, ◌<◌}
 use lib.Bits.{bit_and}
 use lib.Dec.{T, T_not}
-use Rattle.rules.specs.Relations.{same, E, has, set_to, complement}
+use Rattle.rules.specs.Relations.{same, E, has, meet, set_to, complement}
 use Rattle.rules.specs.Descriptions.{most_boards, most_ways, KindLine}
 use Rattle.rules.specs.Tables.{cell}
 use Rattle.rules.specs.Arrangements.{way, width}
 use Rattle.rules.specs.Closing.{agree, rules7}
 use Rattle.rules.proofs.Tests.{and_T, T-decide}
 use Rattle.rules.proofs.Digits.{has_single, has_set_to, set_to_small}
+use Rattle.rules.proofs.Sets.{shared_has}
 use Rattle.rules.proofs.Rules.{unless_in, unless_out, agree_alike, said7''}
 use Rattle.relations.proofs.Bits.{set_to_and}
 use Rattle.kinds.specs.Sections.{Kinds}
@@ -100,6 +101,10 @@ module _ {v count : ℕ} {ws xs t m : List ℕ} (site : Site v count ws xs t m) 
     moved_none site.table site.list,
     record { panels = λ k hk l hl i w. may_panels ks fill h k hk l hl i; ways = λ k hk l hl a i w. need_ways n k l i },
   )
+
+  -- by the test that is made of them
+  pub meets_matched : (meet (cell v t a b) 1 ≡ 0 → ⊥) → (cell v t a b ≡ 1 → ⊥) → (ks : List KindLine) → Kinds v count ws ks → MatchedFor v ks a b m t
+  meets_matched d n ks fill = (visit_open (shared_has same (cell v t a b) d) n ks fill).1
 
   module _ (w n : List ℕ) (some : Bool) where
     -- they must be the same: what reads them as panels is visited

@@ -163,6 +163,7 @@ fn rule7_by_ways(
 
 // Rule 7 of the kind lines that read the cell of a and b: those with a and b as ways in one place, if they are no longer the same, and those with the panels
 // a and b, if they must be. Lines whose codes or numbers of ways differ are known to be apart already.
+#[tactic(auto, using(crate::proofs::Finding::meets_matched, moves::proofs::Moving::moved_none))]
 pub fn rule7_for(
     v: usize,
     count: usize,

@@ -1,13 +1,11 @@
 -- `rule7_for` meets its contract: whether the two boards may be the same, and must be, says which lines need a visit. Assumes nothing.
 use borrow.Author.Rules.{rules}
-use mathlib.Core.Path.{◌≡◌, ◌∙◌}
 use native.Mathlib.Omega.{arith}
-use Rattle.rules.specs.Relations.{same}
-use Rattle.rules.proofs.Sets.{single_small, shared_has}
+use Rattle.rules.proofs.Sets.{single_small}
 use Rattle.rules.proofs.Rules.{same_small}
 use Rattle.passes.proofs.Passes.{place_few, ready_place}
 use Rattle.by_board.proofs.Asking.{found_numbers}
-use Rattle.same_panels.proofs.Finding.{visit_open, visit_panels, visit_ways}
+use Rattle.same_panels.proofs.Finding.{visit_panels, visit_ways}
 use Rattle.same_panels.proofs.rule7_for.Goals as goal
 
 pub overflow_mul-k : goal.overflow_mul-k
@@ -34,12 +32,6 @@ returns-then-x-eq-E c =
 
 pub meet-requires : goal.meet-requires
 meet-requires c = (c.requires.0.table.ready.table.small _, single_small same_small)
-
-pub returns-then-meet-ne0 : goal.returns-then-meet-ne0
-returns-then-meet-ne0 c =
-    let pre = c.requires in
-    let may : c.meet.result ≡ 0 → ⊥ = c.if-meet-ne0.true in
-    visit_open pre.0 pre.1 pre.2 pre.3 (shared_has same _ (λ e. may (c.meet.ensures ∙ e))) c.if-x-eq-E.false
 
 pub returns : goal.returns
 returns c =

@@ -102,6 +102,7 @@ fn unopened() -> Opened
 }
 
 // What the first line says.
+#[tactic(auto, using(crate::proofs::Opening::opens_without))]
 fn open_line(line: &[u8]) -> Opened
     ensures { Opens (first_of (symbols line.now)) result }
 {

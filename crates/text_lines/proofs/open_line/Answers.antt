@@ -4,12 +4,13 @@ use mathlib.Core.List.{List, ◌∷◌}
 use Prim.Native.Nat.{ℕ, ◌≤◌}
 use native.Mathlib.Omega.{arith}
 use lib.ListN.{length}
+use Rattle.rules.proofs.Tests.{tested}
 use Rattle.typed.specs.Symbols.{number}
 use Rattle.typed.specs.Sheets.{first_of, boards_in}
 use Rattle.symbols.specs.declared.Token.{Token}
 use Rattle.symbols.proofs.Steps.{Stepped, stepped}
 use Rattle.kind_texts.proofs.Moves.{from, some_read}
-use Rattle.text_lines.proofs.Opening.{word_read, word_missing, number_read, number_missing, end_read, end_missing, opens_none, opens_some}
+use Rattle.text_lines.proofs.Opening.{word_read, number_read, number_missing, end_read, end_missing, opens_none, opens_some}
 use Rattle.text_lines.proofs.open_line.Tie as tie
 use Rattle.text_lines.proofs.open_line.Lts as lts
 use Rattle.text_lines.proofs.open_line.Reads as reads
@@ -28,14 +29,11 @@ word c = c.symbol_at-word.result
 first : (c : lts.After-symbol_at tie.the-claims reads.Pre reads.Post) → Stepped (line c) 0 (word c)
 first c = stepped (line c) 0 (omega arith) c.symbol_at-word.ensures
 
-pub returns-then-word-ne-BOARDS : goal.returns-then-word-ne-BOARDS
-returns-then-word-ne-BOARDS c = opens_none (word_missing _ _ _ (first c.before.before.before.before) c.if-word-ne-BOARDS.true) _ c.unopened.ensures
-
 -- ---- the number
 
 -- the place after the word
 word_end : (c : lts.Else1 tie.the-claims reads.Pre reads.Post) → (word c.before.before).next ≤ length (line c.before.before)
-word_end c = (some_read _ _ _ (first c.before.before) (λ e. omega (arith, c.if-word-ne-BOARDS.false))).inside
+word_end c = (some_read _ _ _ (first c.before.before) (λ e. omega tested)).inside
 
 pub symbol_at-number-requires : goal.symbol_at-number-requires
 symbol_at-number-requires c = word_end c.before
@@ -54,7 +52,7 @@ second c = stepped (line (before2 c)) (word (before2 c)).next (word_end c.before
 
 -- the line after the word
 worded : (c : lts.After-symbol_at2 tie.the-claims reads.Pre reads.Post) → first_of (from (line (before2 c)) 0) ≡ boards_in (from (line (before2 c)) (word (before2 c)).next)
-worded c = word_read _ _ _ (first (before2 c)) c.if-word-ne-BOARDS.false
+worded c = word_read _ _ _ (first (before2 c)) (omega tested)
 
 pub returns-then-number-ge-BOARDS : goal.returns-then-number-ge-BOARDS
 returns-then-number-ge-BOARDS c =

@@ -73,6 +73,7 @@ fn list_ways(line: &[u8], at: usize, ways: &mut [u16]) -> Listed
 }
 
 // Puts the words of a kind line with so many ways into the words lent, from a place on: where the ways are too many, only their number.
+#[tactic(auto, using(crate::proofs::Putting::brief_over))]
 fn put_kind(
     board: u16,
     code: u16,

@@ -212,3 +212,11 @@ module _ (text ws kinds : List ℕ) (g : Gathered) (h : Gathers (sheet_parts (li
       go (parts v rs ks) e t =
           let l = parts_lines (lines_of text) v rs ks e in
           record { v = v; rs = rs; ks = ks; is = e; whole = t; relation_lines_lem = l.0; kind_lines_lem = l.1 }
+
+  -- few boards, and too many relation lines
+  pub lines_over : g.fault ≡ 0 → 1 ≤ g.boards → g.boards ≤ most_boards → most_lines < g.relations → (room : List ℕ) → from_text text room ≡ refuse 1 1 room
+  lines_over f some most over room =
+      let p = parted f in
+      sym
+      (many_relations p.v p.rs p.ks room (omega (arith, p.whole.boards)) (omega (arith, p.whole.boards)) (omega (arith, p.whole.relations))
+      ∙ ap (λ (x : Parts). read_parts x room) (sym p.is) ∙ from_parts text room)

@@ -57,6 +57,7 @@ fn join(words: &mut [u16], kinds: &[u16], lines: Gathered) -> usize
 }
 
 // Reads the words that were made, and hands them over: refuses them with 1 to 5 and 11, and the place, then a room that is too small with 19.
+#[tactic(auto, unfolding(rules::specs::Calls::reading))]
 fn hand_over(words: &[u16], room: &mut [u16]) -> Answer
     requires { length words.now ≤ most_words }
     ensures { outcome result room.new ≡ given (read words.now) room.old (λ s. in_room words.now room.old) }
@@ -75,6 +76,7 @@ fn hand_over(words: &[u16], room: &mut [u16]) -> Answer
 // Reads a typed sheet: the words of its description go to the front of the lent room, and the answer has how many they are. Refuses the first
 // malformed line with 20 and its number, then the words made with 1 to 5 and 11, and the place in these, then a room that is too small with 19; and then leaves
 // the room as it came.
+#[tactic(auto, using(crate::proofs::Making::lines_over))]
 pub fn from_text(text: &[u8], room: &mut [u16]) -> Answer
     ensures { outcome result room.new ≡ from_text text.now room.old }
 {

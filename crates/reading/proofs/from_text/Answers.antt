@@ -14,7 +14,7 @@ use Rattle.typed.specs.Calls.{in_room, from_text}
 use Rattle.text_lines.specs.declared.Gathered.{Gathered}
 use Rattle.text_lines.specs.Gatherings.{Parts, parts, kinds_room}
 use Rattle.reading.specs.Joined.{Joins}
-use Rattle.reading.proofs.Making.{read_parts, from_parts, joins, total_few, joined_read, no_boards_lem, many_relations, many_kinds, Parted, stopped_at, parted}
+use Rattle.reading.proofs.Making.{read_parts, from_parts, joins, total_few, joined_read, no_boards_lem, many_kinds, Parted, stopped_at, parted}
 use Rattle.reading.proofs.from_text.Tie as tie
 use Rattle.reading.proofs.from_text.Lts as lts
 use Rattle.reading.proofs.from_text.Reads as reads
@@ -60,7 +60,7 @@ module _ (c : AtFew) where
   gathered = c.before.before.before.before.before.before.before
 
   few_relations : length (sorted gathered).rs ≤ most_lines
-  few_relations = omega (arith, (sorted gathered).whole.relations, c.if-lines-gt-MOST_LINES.false)
+  few_relations = omega (tested, (sorted gathered).whole.relations)
 
   few_kinds : length (sorted gathered).ks ≤ most_kinds
   few_kinds = omega (arith, (sorted gathered).whole.panels, c.if-lines-gt-MOST_KINDS.false)
@@ -113,15 +113,6 @@ returns-then-boards-lt1 c =
     ∙ no_boards_lem (sorted here).v (sorted here).rs (sorted here).ks (room here)
     (λ low high. (elim c.then-boards-lt1.branch [ then-boards-lt1-via-then-boards-lt1 w ↦ omega (tested, boards) | then-boards-lt1-via-else-boards-lt1+then-boards-gt-MOST_BOARDS w ↦ omega (tested, boards) ])))
 
-pub returns-then-lines-gt-MOST_LINES : goal.returns-then-lines-gt-MOST_LINES
-returns-then-lines-gt-MOST_LINES c =
-    let here : AtGathered = c.before.before.before.before.before.before.before in
-    let boards = (sorted here).whole.boards in
-    told here
-    (ap (λ (a : Answer). outcome a (room here)) c.refuse-then-lines-gt-MOST_LINES.ensures
-    ∙ many_relations (sorted here).v (sorted here).rs (sorted here).ks (room here) (omega (tested, boards)) (omega (tested, boards))
-    (omega (arith, (sorted here).whole.relations, c.if-lines-gt-MOST_LINES.true)))
-
 pub returns-then-lines-gt-MOST_KINDS : goal.returns-then-lines-gt-MOST_KINDS
 returns-then-lines-gt-MOST_KINDS c =
     let here : AtGathered = c.before.before.before.before.before.before.before.before.before in
@@ -129,7 +120,7 @@ returns-then-lines-gt-MOST_KINDS c =
     told here
     (ap (λ (a : Answer). outcome a (room here)) c.refuse-then-lines-gt-MOST_KINDS.ensures
     ∙ many_kinds (sorted here).v (sorted here).rs (sorted here).ks (room here) (omega (tested, boards)) (omega (tested, boards))
-    (omega (arith, (sorted here).whole.relations, c.if-lines-gt-MOST_LINES.false)) (omega (arith, (sorted here).whole.panels, c.if-lines-gt-MOST_KINDS.true)))
+    (omega (tested, (sorted here).whole.relations)) (omega (arith, (sorted here).whole.panels, c.if-lines-gt-MOST_KINDS.true)))
 
 pub join-total-requires : goal.join-total-requires
 join-total-requires c = joining c.before.before.before

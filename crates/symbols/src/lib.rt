@@ -65,6 +65,7 @@ fn digit_of(byte: u8) -> u32
 }
 
 // Whether a run of bytes has a leading zero.
+#[tactic(auto, unfolding(crate::specs::Tokens::padded))]
 fn padded(run: &[u8]) -> bool
     ensures { result ≡ padded run.now }
 {

@@ -1,8 +1,6 @@
 -- `skip_blanks` meets its contract: only blanks are passed. The measure is the bytes left. Assumes nothing.
 use mathlib.Core.Path.{refl, ◌∙◌}
 use native.Mathlib.Omega.{arith}
-use borrow.Author.Tests.{ne_eqb}
-use Rattle.typed.specs.Symbols.{blank}
 use Rattle.symbols.proofs.Fronts.{front_blank}
 use Rattle.symbols.proofs.skip_blanks.Goals as goal
 
@@ -11,11 +9,6 @@ loop-i-init c = (omega arith, omega arith, refl)
 
 pub bounds-line-i : goal.bounds-line-i
 bounds-line-i c = omega arith
-
-pub returns-then-line-i-ne32 : goal.returns-then-line-i-ne32
-returns-then-line-i-ne32 c =
-    let loop = c.loop-i in
-    record { after = loop.invariant.0; inside = loop.invariant.1; front = loop.invariant.2; solid = λ h. ne_eqb _ blank c.if-line-i-ne32.true }
 
 pub overflow_add-i : goal.overflow_add-i
 overflow_add-i c = omega arith
@@ -28,7 +21,7 @@ loop-i-preserved c =
     let loop = c.loop-i in (
       omega arith,
       omega arith,
-      loop.invariant.2 ∙ front_blank c.args.line.now loop.i c.loop-i-test.true c.if-line-i-ne32.false,
+      loop.invariant.2 ∙ front_blank c.args.line.now loop.i c.loop-i-test.true (omega arith),
     )
 
 pub returns : goal.returns

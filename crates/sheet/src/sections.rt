@@ -63,6 +63,7 @@ fn kind_section(v: usize, count: usize, words: &[u16]) -> SectionFound
 }
 
 // Reads a section of `count` kind lines, for boards below v, and then looks for one that disagrees with an earlier one: it is refused at its number of ways.
+#[tactic(auto, using(crate::proofs::Agreed::kinds_apart))]
 pub(crate) fn agreed_section(v: usize, count: usize, words: &[u16]) -> SectionFound
     ensures { result ≡ section_found (next (section (kind_line v) count words.now) agreed) }
 {

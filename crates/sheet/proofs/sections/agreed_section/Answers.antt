@@ -4,7 +4,7 @@ use native.Mathlib.Omega.{arith}
 use Rattle.rules.specs.Descriptions.{kind_line, section}
 use Rattle.sheet.specs.declared.sections.SectionFound.TheVariants.{Filled}
 use Rattle.sheet.specs.Found.{section_found}
-use Rattle.sheet.proofs.Agreed.{kinds_refused, kinds_first, kinds_room_lem, kinds_disagree, kinds_agree}
+use Rattle.sheet.proofs.Agreed.{kinds_refused, kinds_first, kinds_room_lem, kinds_agree}
 use Rattle.sheet.proofs.sections.agreed_section.Tie as tie
 use Rattle.sheet.proofs.sections.agreed_section.Lts as lts
 use Rattle.sheet.proofs.sections.agreed_section.Reads as reads
@@ -25,14 +25,9 @@ first_disagreeing-at-requires c =
 pub overflow_add-result : goal.overflow_add-result
 overflow_add-result c =
     let told = c.before.before.before in
-    omega (arith, kinds_room_lem c.args.v c.args.count c.args.words.now (filled told) c.first_disagreeing-at.ensures c.if-at-words.true)
-
-pub returns-then-at-words : goal.returns-then-at-words
-returns-then-at-words c =
-    let told = c.before.before.before in
-    kinds_disagree c.args.v c.args.count c.args.words.now (filled told) c.first_disagreeing-at.ensures c.if-at-words.true
+    omega (arith, kinds_room_lem c.args.v c.args.count c.args.words.now (filled told) c.first_disagreeing-at.ensures (omega arith))
 
 pub returns : goal.returns
 returns c =
     let told = c.before.before.before in
-    kinds_agree c.args.v c.args.count c.args.words.now (filled told) c.first_disagreeing-at.ensures c.if-at-words.false
+    kinds_agree c.args.v c.args.count c.args.words.now (filled told) c.first_disagreeing-at.ensures (omega arith)

@@ -10,6 +10,7 @@ use headers::HeaderFound;
 use tables::Asked;
 
 // Admits a call: reads the description, then looks whether the table has what is asked for.
+#[tactic(auto, using(crate::proofs::Admitting::admit_no_table))]
 pub fn admit(words: &[u16], table: &[u8], asked: Asked) -> HeaderFound
     ensures { result ≡ admitted_found (asks asked) words.now table.now }
 {

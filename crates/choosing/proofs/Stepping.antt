@@ -10,10 +10,11 @@ use lib.Seq.{get_or-set_same, get_or-set_other}
 use Rattle.rules.specs.Relations.{set_limit, size}
 use Rattle.rules.specs.Search.{places}
 use Rattle.rules.proofs.Strikes.{set_each}
+use Rattle.rules.proofs.Tests.{order_cases}
 use Rattle.passes.specs.Passes.{Ready}
 use Rattle.choosing.specs.declared.pairs.Pair.{Pair}
-use Rattle.choosing.specs.Pairs.{pair_cell, IsPair}
-use Rattle.choosing.specs.Choices.{Bytes, Passed, Several}
+use Rattle.choosing.specs.Pairs.{before, pair_cell, IsPair}
+use Rattle.choosing.specs.Choices.{Bytes, Passed}
 use Rattle.choosing.proofs.Walking.{pair_place, pair_within, pair_end}
 
 -- a set may be put at any byte
@@ -86,13 +87,6 @@ module _ {v : ℕ} {t cs : List ℕ} {i : ℕ} {ds : List ℕ} {at : Pair} where
           kept = λ m h n. bytes_before m n ∙ p.kept m h n;
         }
 
-    -- a pair with several relations
-    pub going_try : 1 < size held → Passed v t cs i bytes at.index × Several v t bytes at
-    going_try h = (
-      going_passed,
-      record { pair = g.pair; within = l; many = subst (λ (x : ℕ). 1 < size x) held_place h; kept = bytes_here },
-    )
-
     -- a pair with at most one
     pub going_on : size held ≤ 1 → {to : Pair} → IsPair v to → to.index ≡ at.index + 1 → Going v t cs i bytes to
     going_on h {to} k e =
@@ -113,3 +107,39 @@ module _ {v : ℕ} {t cs : List ℕ} {i : ℕ} {ds : List ℕ} {at : Pair} where
         here : (P : ℕ → Type 0) → ((m : ℕ) → i ≤ m → m < at.index → P m) → P at.index → (m : ℕ) → i ≤ m → m < to.index → P m
         here P f x m b n =
             let l : m ≤ at.index = omega arith in ⊎_elim (λ d. subst P (sym d) x) (λ d. f m b d) (eq-or-lt_of_le l)
+
+-- ---- the pair where the walk stops, by plain facts
+
+module _ (ds : List ℕ) (n x : ℕ) where
+  pub put_room : length (set ds n x) ≡ length ds
+  put_room = length-set ds n x
+
+  put_here : n < length ds → get_or (set ds n x) n 0 ≡ x
+  put_here h = get_or-set_same ds n x 0 h
+
+  pub put_before : (m : ℕ) → m < n → get_or (set ds n x) m 0 ≡ get_or ds m 0
+  put_before m h = let o : (m ≡ n → ⊥) = λ e. omega arith in get_or-set_other ds n m x 0 o
+
+  put_small : (m : ℕ) → n < length ds → get_or ds m 0 < set_limit → x < set_limit → get_or (set ds n x) m 0 < set_limit
+  put_small m w h l =
+      ⊎_elim (λ k. let g : get_or (set ds n x) m 0 ≡ get_or ds m 0 = put_before m k in omega arith)
+      (⊎_elim (λ k. let g : get_or (set ds n x) m 0 ≡ get_or ds m 0 = get_or-set_other ds n m x 0 (λ d. omega arith) in omega arith)
+      (λ e. let g : get_or (set ds n x) m 0 ≡ x = rw e (put_here w) in omega arith)) (order_cases m n)
+
+module _ (v p q n : ℕ) (t : List ℕ) (b : p < q) (l : q < v) (e : n + p + 1 ≡ before v p + q) where
+  stop : IsPair v (record { p = p; q = q; index = n })
+  stop = record { below = b; most = omega arith; last = λ d. let z : ⊥ = omega arith in absurd z; counted = e }
+
+  pub stop_cell : get_or t (pair_cell v n) 0 ≡ get_or t (v * p + q) 0
+  stop_cell = ap (λ (k : ℕ). get_or t k 0) (pair_place stop l)
+
+  module _ (ds : List ℕ) (w : length (places v) ≤ length ds) where
+    pub stop_here : get_or (set ds n (get_or t (v * p + q) 0)) n 0 ≡ get_or t (v * p + q) 0
+    stop_here = put_here ds n (get_or t (v * p + q) 0) (omega (arith, pair_within stop l))
+
+    pub stop_small : (m : ℕ) → get_or ds m 0 < set_limit → get_or t (v * p + q) 0 < set_limit
+        → get_or (set ds n (get_or t (v * p + q) 0)) m 0 < set_limit
+    stop_small m h k = put_small ds n (get_or t (v * p + q) 0) m (omega (arith, pair_within stop l)) h k
+
+-- what `next_open` answers at such a pair follows from these
+pub ruleset stops = (put_room, put_before, stop_here, stop_small, stop_cell)

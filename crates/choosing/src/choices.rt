@@ -18,6 +18,7 @@ pub(crate) enum Next {
 }
 
 // Finds the first pair, from a pair on, whose cell has several relations. The byte of each pair on the way becomes what its cell holds.
+#[tactic(auto, using(crate::proofs::Stepping::stops))]
 pub(crate) fn next_open(v: usize, from: Pair, cells: &[u8], choices: &mut [u8]) -> Next
     requires { Ready v cells.now × IsPair v from × Bytes v choices.old }
     ensures { NextOpen v cells.now choices.old from.index choices.new result }

@@ -1,10 +1,8 @@
 -- `next_open` meets its contract: each pair passed has at most one relation, which its byte keeps. The measure is the pairs left. Assumes nothing.
-use mathlib.Core.Path.{subst}
-use Prim.Native.Nat.{ℕ, ◌≤◌, ◌<◌}
 use native.Mathlib.Omega.{arith}
 use Rattle.passes.proofs.Passes.{place_few, ready_place}
 use Rattle.choosing.proofs.Walking.{pair_board, pair_within}
-use Rattle.choosing.proofs.Stepping.{going_none, going_room, going_try, going_on, going_end}
+use Rattle.choosing.proofs.Stepping.{going_none, going_room, going_on, going_end}
 use Rattle.choosing.proofs.choices.next_open.Goals as goal
 
 pub loop-at-init : goal.loop-at-init
@@ -32,11 +30,6 @@ bounds-choices-i c =
 pub size-requires : goal.size-requires
 size-requires c = c.requires.0.table.small _
 
-pub returns-then-size-gt1 : goal.returns-then-size-gt1
-returns-then-size-gt1 c =
-    going_try c.requires.0 c.loop-at.invariant c.loop-at-test.true
-    (subst (λ (n : ℕ). 1 < n) c.size.ensures c.if-size-gt1.true)
-
 pub after-at-requires : goal.after-at-requires
 after-at-requires c =
     (c.requires.0.boards, c.loop-at.invariant.pair, c.loop-at-test.true)
@@ -48,7 +41,7 @@ loop-at-smaller c =
 pub loop-at-preserved : goal.loop-at-preserved
 loop-at-preserved c =
     going_on c.requires.0 c.loop-at.invariant c.loop-at-test.true
-    (subst (λ (n : ℕ). n ≤ 1) c.size.ensures c.if-size-gt1.false) c.after-at.ensures.0 c.after-at.ensures.1
+    (omega arith) c.after-at.ensures.0 c.after-at.ensures.1
 
 pub returns : goal.returns
 returns c = going_end c.loop-at.invariant c.loop-at-test.false

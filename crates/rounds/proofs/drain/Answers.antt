@@ -1,9 +1,9 @@
 -- `drain` meets its contract: what is owed is owed by the list, until nothing is on it. The measure is the relations left, twice, and the marks.
 -- Assumes nothing.
-use mathlib.Core.Path.{refl, subst}
+use mathlib.Core.Path.{◌≡◌, refl, subst}
 use native.Mathlib.Omega.{arith}
 use borrow.Author.Tests.{not-true, not-false}
-use Rattle.moves.specs.Moves.{marks, FirstMarked, Went}
+use Rattle.moves.specs.Moves.{FirstMarked, Went}
 use Rattle.rounds.specs.Rounds.{Seen}
 use Rattle.rounds.proofs.Draining.{on_boards, draining_start, draining_end, first_board, first_word, first_on, first_other, first_list, draining_more, draining_less, draining_apart, draining_lost}
 use Rattle.rounds.proofs.drain.Goals as goal
@@ -26,12 +26,12 @@ returns-then-p-v c =
 pub bounds-marks-p : goal.bounds-marks-p
 bounds-marks-p c =
     let has = c.requires.0.listed.lines.0 in
-    first_word (c.loop-entries.invariant has.0 has.1) c.requires.0.table.ready.boards c.first_marked-p.ensures c.if-p-v.false refl
+    first_word (c.loop-entries.invariant has.0 has.1) c.requires.0.table.ready.boards c.first_marked-p.ensures (omega arith) refl
 
 pub bounds-marks-p-in-loop-entries : goal.bounds-marks-p-in-loop-entries
 bounds-marks-p-in-loop-entries c =
     let has = c.requires.0.listed.lines.0 in
-    first_word (c.loop-entries.invariant has.0 has.1) c.requires.0.table.ready.boards c.first_marked-p.ensures c.if-p-v.false refl
+    first_word (c.loop-entries.invariant has.0 has.1) c.requires.0.table.ready.boards c.first_marked-p.ensures (omega arith) refl
 
 pub without-requires : goal.without-requires
 without-requires c =
@@ -39,13 +39,13 @@ without-requires c =
     let has = pre.0.listed.lines.0 in
     let inv = c.loop-entries.invariant has.0 has.1 in
     let few = pre.0.table.ready.boards in
-    let below = first_other inv few c.first_marked-p.ensures c.if-p-v.false c.lowest-q.ensures in
-    (omega arith, first_on inv few c.first_marked-p.ensures c.if-p-v.false c.lowest-q.ensures)
+    let below = first_other inv few c.first_marked-p.ensures (omega arith) c.lowest-q.ensures in
+    (omega arith, first_on inv few c.first_marked-p.ensures (omega arith) c.lowest-q.ensures)
 
 pub bounds-marks-p-in-loop-entries-2 : goal.bounds-marks-p-in-loop-entries-2
 bounds-marks-p-in-loop-entries-2 c =
     let has = c.requires.0.listed.lines.0 in
-    first_word (c.loop-entries.invariant has.0 has.1) c.requires.0.table.ready.boards c.first_marked-p.ensures c.if-p-v.false refl
+    first_word (c.loop-entries.invariant has.0 has.1) c.requires.0.table.ready.boards c.first_marked-p.ensures (omega arith) refl
 
 pub revisit-requires : goal.revisit-requires
 revisit-requires c =
@@ -54,7 +54,7 @@ revisit-requires c =
     let inv = c.loop-entries.invariant has.0 has.1 in
     let few = pre.0.table.ready.boards in
     let first = c.first_marked-p.ensures in
-    let some = c.if-p-v.false in
+    let some : c.first_marked-p.result ≡ c.args.v → ⊥ = omega arith in
     let low = c.lowest-q.ensures in (
       record { table = inv.fit; list = first_list inv few first some low _ c.without.ensures; listed = pre.0.listed },
       c.composition_table-entries.ensures,
@@ -72,12 +72,12 @@ pub loop-entries-smaller : goal.loop-entries-smaller
 loop-entries-smaller c =
     let pre = c.requires in
     let has = pre.0.listed.lines.0 in
-    draining_less (c.loop-entries.invariant has.0 has.1) pre.0.table.ready.boards c.first_marked-p.ensures c.if-p-v.false c.lowest-q.ensures _ c.without.ensures
+    draining_less (c.loop-entries.invariant has.0 has.1) pre.0.table.ready.boards c.first_marked-p.ensures (omega arith) c.lowest-q.ensures _ c.without.ensures
     (subst (Went _ _ (Seen c.args.v has.0 c.first_marked-p.result c.lowest-q.result) _ _ _ _) (not-false c.revisit.result c.if-not-revisit.false-raw) (c.revisit.ensures has.0 has.1)).0
 
 pub loop-entries-preserved : goal.loop-entries-preserved
 loop-entries-preserved c =
     λ ks e.
     let went = subst (Went _ _ (Seen c.args.v ks c.first_marked-p.result c.lowest-q.result) _ _ _ _) (not-false c.revisit.result c.if-not-revisit.false-raw) (c.revisit.ensures ks e) in
-    draining_more (c.loop-entries.invariant ks e) c.requires.0.table.ready.boards c.first_marked-p.ensures c.if-p-v.false c.lowest-q.ensures _ c.without.ensures went.0
+    draining_more (c.loop-entries.invariant ks e) c.requires.0.table.ready.boards c.first_marked-p.ensures (omega arith) c.lowest-q.ensures _ c.without.ensures went.0
     (on_boards c.args.v c.args.count c.args.words.now ks e) went.1

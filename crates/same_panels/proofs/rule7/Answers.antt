@@ -90,5 +90,5 @@ returns c =
     let both = c.before.before.before.before.before.before.before.before.before in
     let (table, marks, line, other, same) = (start both).requires in
     rule7_joined (start both).args.v (one (start both)) (two (start both)) (start both).args.cells.now (start both).args.marks.now _ _ table marks
-    line.board other.board (alike both) (record { ways = line.boards; others = other.boards; same = (alike both).1 }) c.if-x-ne-E.false
+    line.board other.board (alike both) (record { ways = line.boards; others = other.boards; same = (alike both).1 }) (omega arith)
     c.match_ways.result c.match_ways.ensures

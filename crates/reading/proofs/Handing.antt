@@ -11,7 +11,7 @@ use Rattle.rules.specs.Descriptions.{Sheet, Reading, read}
 use Rattle.rules.specs.Calls.{Outcome, refuse, succeed, given, reading}
 use Rattle.answers.specs.declared.Answer.{Answer}
 use Rattle.answers.specs.Answers.{outcome}
-use Rattle.answers.proofs.Told.{told_good}
+use Rattle.answers.proofs.Told.{told_good, told_refused}
 use Rattle.typed.specs.Calls.{in_room}
 
 by_room : List ℕ → List ℕ → Bool → Outcome (List ℕ)
@@ -28,7 +28,10 @@ module _ (xs room : List ℕ) where
   unfolding in_room by_room
   room_small h = sym (ap (by_room xs room) (lt-leb (length xs) (length room) h))
 
--- where the reader takes the words, they are taken
+-- what follows from what the reader answers of the words: a refusal is passed on, with its place, or they are taken
 module _ (ws : List ℕ) {a : Answer} (answers : outcome a tt ≡ reading ws) {L : Type 0} (l : L) where
+  pub passed_on : (f : Sheet → Outcome L) → (a.number ≡ 0 → ⊥) → outcome a l ≡ given (read ws) l f
+  passed_on f h = sym (ap (λ (r : Reading Sheet). given r l f) (told_refused ws answers h))
+
   pub words_taken : (o : Outcome L) → a.number ≡ 0 → o ≡ given (read ws) l (λ s. o)
   words_taken o h = let (s, e) = told_good ws answers h in sym (ap (λ (r : Reading Sheet). given r l (λ s. o)) e)

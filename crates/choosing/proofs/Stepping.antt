@@ -14,7 +14,7 @@ use Rattle.rules.proofs.Tests.{order_cases}
 use Rattle.passes.specs.Passes.{Ready}
 use Rattle.choosing.specs.declared.pairs.Pair.{Pair}
 use Rattle.choosing.specs.Pairs.{before, pair_cell, IsPair}
-use Rattle.choosing.specs.Choices.{Bytes, Passed}
+use Rattle.choosing.specs.Choices.{Bytes, Passed, Several}
 use Rattle.choosing.proofs.Walking.{pair_place, pair_within, pair_end}
 
 -- a set may be put at any byte
@@ -86,6 +86,13 @@ module _ {v : ℕ} {t cs : List ℕ} {i : ℕ} {ds : List ℕ} {at : Pair} where
           single = p.single;
           kept = λ m h n. bytes_before m n ∙ p.kept m h n;
         }
+
+    -- a pair with several relations
+    pub going_try : 1 < size held → Passed v t cs i bytes at.index × Several v t bytes at
+    going_try h = (
+      going_passed,
+      record { pair = g.pair; within = l; many = subst (λ (x : ℕ). 1 < size x) held_place h; kept = bytes_here },
+    )
 
     -- a pair with at most one
     pub going_on : size held ≤ 1 → {to : Pair} → IsPair v to → to.index ≡ at.index + 1 → Going v t cs i bytes to

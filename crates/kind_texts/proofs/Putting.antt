@@ -17,6 +17,17 @@ pub brief_over : (p c : ℕ) (ys : List ℕ) → most_ways < length ys → brief
 brief_over p c ys h = brief_cut most_ways (p ∷ c ∷ length ys ∷ ys) (omega arith)
 
 module _ {p c : ℕ} {room : List ℕ} {n : ℕ} {ws : List ℕ} {at : ℕ} {started : List ℕ} {next : ℕ} (b : Begun ws at p c n started next) where
+  -- too many ways: only their number
+  pub puts_over : most_ways < n → Puts p c room n ws at started (record { good = true; next = next })
+  puts_over l ys h =
+      let e : n ≡ suc most_ways = omega (arith, h.count) in
+      let i = brief_over p c ys (omega (arith, h.count)) in
+      let k : next ≡ at + length (brief most_ways (p ∷ c ∷ length ys ∷ ys)) = omega (arith, b.place, ap length i) in
+      record {
+        answer = ap (λ (m : ℕ). record { good = true; next = m }) k;
+        words = b.words ∙ ap (sets ws at) (ap (λ (m : ℕ). p ∷ c ∷ m ∷ []) e ∙ sym i);
+      }
+
   -- all of them
   pub puts_all : n ≤ most_ways → {after : List ℕ} → after ≡ sets started next (take n room)
       → Puts p c room n ws at after (record { good = true; next = next + n })

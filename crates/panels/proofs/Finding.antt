@@ -83,6 +83,10 @@ module _ {v count : ℕ} {ws xs t m : List ℕ} (site : Site v count ws xs t m) 
       went_so (Keeping rules6 v ks) v (FedEach v ws lines b) (FedFor v ks a b) t m w n some
       (λ moved f. for_panel ks fill e moved (subst (λ (x : ℕ). FedEach v ws x b n w) d f)) g
 
+  pub visit_panel : {lines : ℕ} → lines ≡ with_panel xs a → cell v t a b ≡ A → (w n : List ℕ) (some : Bool)
+      → Visited (Keeping rules6 v) v count ws (λ ks. FedEach v ws lines b) t m w n some → Visited (Keeping rules6 v) v count ws (λ ks. FedFor v ks a b) t m w n some
+  visit_panel {lines} d e w n some g ks fill = went_panel ks fill e lines d w n some (g ks fill)
+
   -- none, where a may be at or above b and something else
   for_none : (ks : List KindLine) → T (reaches (cell v t a b)) → (cell v t a b ≡ A → ⊥) → FedFor v ks a b m t
   for_none ks reach e =

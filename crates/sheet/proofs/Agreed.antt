@@ -14,8 +14,21 @@ use Rattle.rules.proofs.Arities.{first_few, none_disagreeing, agreed_in, agreed_
 use Rattle.kinds.specs.Sections.{HasKinds}
 use Rattle.arities.specs.Arities.{SomeFill, WithAll}
 use Rattle.answers.specs.declared.refusals.Refusal.{Refusal}
+use Rattle.answers.specs.Answers.{refusal}
 use Rattle.sheet.specs.declared.sections.SectionFound.TheVariants.{Filled, Refused}
 use Rattle.sheet.specs.Found.{section_found}
+
+-- lines that fill the section, with one that disagrees before the end of the words
+pub kinds_apart : (v count : ℕ) (ws : List ℕ) (ks : List KindLine) (n : ℕ) → section (kind_line v) count ws ≡ good ks
+    → n ≡ kind_words (take (first_disagreeing [] ks) ks) → n < length ws → agreed ks ≡ refused 11 (n + 2)
+kinds_apart v count ws ks n e b h =
+    rw b
+    (agreed_refused ks
+    (λ one.
+    let a : first_disagreeing [] ks ≡ length ks = (none_disagreeing ks).1 one in
+    let i : n ≡ length ws =
+    b ∙ ap (λ (m : ℕ). kind_words (take m ks)) a ∙ ap kind_words (take_all (length ks) ks (le_refl (length ks))) ∙ section_words v count ws ks e in
+    omega arith))
 
 module _ (v count : ℕ) (ws : List ℕ) where
   -- what the section is found to be
@@ -65,6 +78,12 @@ module _ (v count : ℕ) (ws : List ℕ) where
       pub kinds_room_lem : n < length ws → n + 3 ≤ length ws
       kinds_room_lem h = ⊎_elim (λ e. let z : ⊥ = omega (arith, all_lines e) in absurd z) some_lines past
 
+      pub kinds_disagree : n < length ws → Refused (refusal 11 (n + 2)) ≡ section_found (found (section (kind_line v) count ws))
+      kinds_disagree h =
+          sym
+          (ap (λ (r : Reading (List KindLine)). section_found (found r)) has_kinds.1
+          ∙ ap section_found (kinds_apart v count ws lines n has_kinds.1 begins h))
+
       pub kinds_agree : length ws ≤ n → Filled ≡ section_found (found (section (kind_line v) count ws))
       kinds_agree h =
           sym
@@ -74,15 +93,3 @@ module _ (v count : ℕ) (ws : List ℕ) where
           none : first_disagreeing [] lines ≡ length lines
           none =
               ⊎_elim (λ e. e) (λ l. let z : ⊥ = omega (arith, some_lines l) in absurd z) past
-
--- lines that fill the section, with one that disagrees before the end of the words
-pub kinds_apart : (v count : ℕ) (ws : List ℕ) (ks : List KindLine) (n : ℕ) → section (kind_line v) count ws ≡ good ks
-    → n ≡ kind_words (take (first_disagreeing [] ks) ks) → n < length ws → agreed ks ≡ refused 11 (n + 2)
-kinds_apart v count ws ks n e b h =
-    rw b
-    (agreed_refused ks
-    (λ one.
-    let a : first_disagreeing [] ks ≡ length ks = (none_disagreeing ks).1 one in
-    let i : n ≡ length ws =
-    b ∙ ap (λ (m : ℕ). kind_words (take m ks)) a ∙ ap kind_words (take_all (length ks) ks (le_refl (length ks))) ∙ section_words v count ws ks e in
-    omega arith))

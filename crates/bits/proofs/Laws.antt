@@ -1,8 +1,8 @@
 -- A set of numbers as a number's binary digits: what it has, how large it is and how many it has, once a number is put in or taken out.
 -- Each law goes by halving: a digit above the lowest is a digit of the half. Assumes nothing.
-use mathlib.Core.Path.{◌≡◌, refl, ap, ◌∙◌, subst}
+use mathlib.Core.Path.{◌≡◌, refl, sym, ap, ◌∙◌, subst}
 use mathlib.Core.Bool.{Bool, true, false, not, ◌&&◌, ◌||◌, and-true, and-false, or-true, or-false}
-use Prim.Native.Nat.{ℕ, zero, suc, ◌+◌, ◌*◌, ◌/◌, ◌%◌, ◌^◌, ◌≤◌, ◌<◌, max}
+use Prim.Native.Nat.{ℕ, zero, suc, ◌+◌, ◌-◌, ◌*◌, ◌/◌, ◌%◌, ◌^◌, ◌≤◌, ◌<◌, max}
 use native.Mathlib.Nat.{one-mul, mod-eq_of_lt}
 use native.Mathlib.Omega.{arith}
 use borrow.Author.Tests.{eqb-true, eqb-false}
@@ -10,8 +10,9 @@ use lib.Bits.{bit_or, or_step, or_zero_r}
 use lib.Count.{ones, ones_step, count_trailing_zeros, under}
 use lib.Dec.{T, eqb, eqb→eq, eqb-suc-suc, eqb-suc-zero, eqb-zero-suc}
 use lib.Pow.{pow_pos, pow-lt}
+use Rattle.std.specs.Prelude.{Some}
 use Rattle.rules.specs.Relations.{has}
-use Rattle.bits.specs.Sets.{word_bits, added, removed, lowest}
+use Rattle.bits.specs.Sets.{word_bits, added, removed, lowest, Taken}
 pub use Rattle.rules.proofs.Digits.{has_zero, has_small}
 
 -- ---- the lowest digit, and the others
@@ -150,3 +151,16 @@ or_single x (suc i) =
 -- a number below the bits of a word is a bit of it
 pub single_word : (i : ℕ) → i < word_bits → 1 * 2 ^ i % 2 ^ word_bits ≡ 2 ^ i
 single_word i h = ap (λ (n : ℕ). n % 2 ^ word_bits) (one-mul (2 ^ i)) ∙ mod-eq_of_lt (pow-lt h)
+
+-- the least number is put out by the bit that is set for it
+module _ (x i : ℕ) (h : x < 2 ^ word_bits) (some : x ≡ 0 → ⊥) (low : i ≡ count_trailing_zeros word_bits x) where
+  met : T (has x i)
+  unfolding lowest
+  met = subst (λ (j : ℕ). T (has x j)) (sym low) (lowest_has x h some)
+
+  pub taken_fits : 1 * 2 ^ i % 2 ^ word_bits ≤ x
+  taken_fits = rw (single_word i (has_small word_bits x i h met)) (has_most x i met)
+
+  pub taken_least : Taken x (x - 1 * 2 ^ i % 2 ^ word_bits) (Some i)
+  unfolding lowest removed
+  taken_least = (low, met, has_small word_bits x i h met, ap (λ (n : ℕ). x - n) (single_word i (has_small word_bits x i h met)))

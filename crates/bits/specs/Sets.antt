@@ -1,5 +1,5 @@
 -- Sets of numbers below the bits of a word, as the number that has their binary digits. Assumes nothing.
-use Rattle.std.specs.Prelude.{true, false, List, ℕ, ◌+◌, ◌-◌, ◌^◌, slice_index, set}
+use Rattle.std.specs.Prelude.{◌≡◌, true, false, List, ℕ, ◌+◌, ◌-◌, ◌^◌, ◌<◌, T, Option, Some, None, slice_index, set}
 use Rattle.std.specs.Int.Count.{count_trailing_zeros}
 use Rattle.rules.specs.Relations.{has}
 
@@ -22,3 +22,8 @@ removed x i = x - 2 ^ i
 -- the least number in x, word_bits if there is none
 unfoldable pub lowest : ℕ → ℕ
 lowest x = count_trailing_zeros word_bits x
+
+-- the least number of x, if it has one, was taken out, and left y
+abbrev pub Taken : ℕ → ℕ → Option ℕ → Type 0
+Taken x y (Some i) = (i ≡ lowest x) × T (has x i) × (i < word_bits) × (y ≡ removed x i)
+Taken x y None = (x ≡ 0) × (y ≡ 0)

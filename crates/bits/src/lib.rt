@@ -1,32 +1,67 @@
-// Sets of small numbers as the bits of a word, a bit for each number: one is put in, the least is found, one is taken out.
+// Sets of small numbers as the bits of a word, a bit for each number.
 #![tactic(auto)]
 
-ghost use Rattle.std.specs.Prelude.{◌≡◌, ◌<◌, T, length};
-ghost use Rattle.rules.specs.Relations.{has};
-ghost use Rattle.bits.specs.Sets.{word_bits, added_at, removed, lowest};
+ghost use Rattle.std.specs.Prelude.{◌≡◌, ◌<◌, bit_and};
+ghost use Rattle.bits.specs.Sets.{word_bits, added, Taken};
 
 use answers::widths::count_number;
+use std::marker::Model;
+use std::ops::BitAnd;
 
-// Puts a number into the set in word k, whether or not the set had it.
-pub fn put(words: &mut [u32], k: usize, i: usize)
-    requires { (k < length words.old) × (i < word_bits) }
-    ensures { words.new ≡ added_at words.old k i }
-{
-    let was = words[k];
-    words[k] = was | (1 << i);
+// A set of numbers below the bits of a word.
+#[derive(Clone, Copy, Debug, PartialEq, Eq)]
+pub struct NumberSet {
+    bits: u32,
 }
 
-// The least number in the set, and the number of bits if the set is empty.
-pub fn lowest(x: u32) -> usize
-    ensures { result ≡ lowest x }
-{
-    count_number(u32::trailing_zeros(x))
+impl Model for NumberSet {
+    ghost use Rattle.std.specs.Prelude.{ℕ, ◌<◌, ◌^◌};
+
+    ghost Value = { ℕ };
+
+    ghost use Rattle.bits.specs.Sets.{word_bits};
+
+    ghost view = { λ s. s.bits };
+
+    ghost invariant = { λ s. s.bits < 2 ^ word_bits };
+
+    ghost inverse = { λ n. record { bits = n } };
 }
 
-// The set without a number that it has.
-pub fn without(x: u32, i: usize) -> u32
-    requires { (i < word_bits) × T (has x i) }
-    ensures { result ≡ removed x i }
-{
-    x - (1 << i)
+impl NumberSet {
+    // The set without a number.
+    pub const EMPTY: NumberSet = NumberSet { bits: 0 };
+
+    // Puts a number into the set, whether or not the set had it.
+    pub fn insert(&mut self, i: usize)
+        requires { i < word_bits }
+        ensures { self.new ≡ added self.old i }
+    {
+        self.bits |= 1 << i;
+    }
+
+    // Takes the least number out of the set, and answers it.
+    pub fn pop(&mut self) -> Option<usize>
+        ensures { Taken self.old self.new result }
+    {
+        if self.bits == 0 {
+            return None;
+        }
+        let i = count_number(self.bits.trailing_zeros());
+        self.bits -= 1 << i;
+        Some(i)
+    }
+}
+
+// The numbers that two sets have.
+impl BitAnd for NumberSet {
+    type Output = NumberSet;
+
+    ghost bitand_gives = { λ x y r. r ≡ bit_and x y };
+
+    fn bitand(self, other: NumberSet) -> NumberSet {
+        NumberSet {
+            bits: self.bits & other.bits,
+        }
+    }
 }

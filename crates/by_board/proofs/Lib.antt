@@ -3,6 +3,7 @@ pub mod Numbers
 pub mod Marking
 pub mod Telling
 pub mod Placing
+pub mod Laying
 pub mod Agreeing
 pub mod Asking
 pub mod Determined

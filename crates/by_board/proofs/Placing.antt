@@ -58,6 +58,10 @@ module _ {n : ℕ} {ws : List ℕ} {at : ℕ} (b : Begins n ws at) where
         let (most, (v, boards, has)) = b.fits in
         subst (λ (l : descriptions.KindLine). width l ≤ most_ways) is_line (numbered_narrow v b.count ws has n b.below)
 
+    -- each of its ways is a board, and in one of few places
+    pub line_board : {i y : ℕ} → i < length (ways_at ws k) → y ≡ get_or (ways_at ws k) i 0 → (y < most_boards) × (i < most_ways)
+    line_board {i} {y} h e = (omega (arith, e, line_stands.boards i h), omega (arith, line_narrow))
+
     -- the next line begins where it ends
     pub line_next : k.end ≡ start_of ws (n + 1)
     unfolding start_of
@@ -75,8 +79,7 @@ module _ {n : ℕ} {ws : List ℕ} {at : ℕ} (b : Begins n ws at) where
       pub line_way : {y : ℕ} → i < length (ways_at ws k) → y ≡ get_or (ways_at ws k) i 0
           → Turn ws n (i + 1) (added_at (added_at xs (spots_at + most_ways * y + i) n) (places_at + y) i)
       line_way {y} h e =
-          let board : y < most_boards = omega (arith, e, line_stands.boards i h) in
-          let few : i < most_ways = omega (arith, line_narrow) in (
+          let (board, few) = line_board h e in (
             tell_place
                 (tell_way n i t.0 y board few (subst (λ (l : descriptions.KindLine). i < width l) (sym is_line) h)
                 (ap (λ (l : descriptions.KindLine). way l i) is_line ∙ sym e)) y _ board,

@@ -4,7 +4,7 @@ use mathlib.Core.Path.{◌≡◌, refl, sym, ◌∙◌, subst}
 use mathlib.Core.Bool.{Bool, true, false, not}
 use mathlib.Core.Logic.{◌⊎◌, inl, inr, ⊎_elim}
 use mathlib.Core.List.{List}
-use Prim.Native.Nat.{ℕ, ◌+◌, ◌^◌, ◌<◌}
+use Prim.Native.Nat.{ℕ, ◌+◌, ◌<◌}
 use native.Mathlib.Omega.{arith}
 use borrow.Author.Count.{below_none, below_more}
 use borrow.Author.Tests.{not-true, not-false}
@@ -20,8 +20,8 @@ use Rattle.rules.proofs.Members.{all_one, one_all}
 use Rattle.rules.proofs.Rules.{all_boards, boards_all}
 use Rattle.passes.specs.Passes.{Idles}
 use Rattle.kinds.specs.Sections.{WithKinds}
-use Rattle.bits.specs.Sets.{word_bits, removed, lowest}
-use Rattle.bits.proofs.Laws.{has_zero, has_small, has_removed, removed_small, removed_less, lowest_has}
+use Rattle.bits.specs.Sets.{removed}
+use Rattle.bits.proofs.Laws.{has_zero, has_removed, removed_less}
 use Rattle.by_board.specs.Found.{Listed}
 use Rattle.moves.specs.Moves.{Mirrored, Mutual, Moved, Lost, Went}
 use Rattle.moves.specs.Visits.{Site, Visited}
@@ -73,7 +73,6 @@ module _ (C : List KindLine → List ℕ → Type 0) (v count : ℕ) (ws xs : Li
   -- Q is seen to of each number of the set `all` that is not in the set `left`
   pub record Passing (Q : ℕ → List ℕ → List ℕ → Type 0) (all left : ℕ) (t m w n : List ℕ) : Type 0 where
     pub going : Going t m w n
-    pub small : left < 2 ^ word_bits
     pub among : (i : ℕ) → T (has left i) → T (has all i)
     pub done : (i : ℕ) → T (has all i) → T (has left i) ⊎ Q i n w
 
@@ -135,22 +134,15 @@ module _ {C : List KindLine → List ℕ → Type 0} {v count : ℕ} {ws xs : Li
 
     -- ---- to the numbers of a set
 
-    pub passing_none : {all left : ℕ} {t m : List ℕ} → Site v count ws xs t m → left ≡ all → left < 2 ^ word_bits → Passing C v count ws xs Q all left t m t m
-    passing_none s e h =
+    pub passing_none : {all left : ℕ} {t m : List ℕ} → Site v count ws xs t m → left ≡ all → Passing C v count ws xs Q all left t m t m
+    passing_none s e =
         record {
           going = going_none s;
-          small = h;
           among = λ i a. subst (λ (x : ℕ). T (has x i)) e a;
           done = λ i a. inl (subst (λ (x : ℕ). T (has x i)) (sym e) a);
         }
 
     module _ {all left : ℕ} {t m u k : List ℕ} (p : Passing C v count ws xs Q all left t m u k) where
-      -- the least of those that are left
-      pub passing_least : {i : ℕ} → i ≡ lowest left → (left ≡ 0 → ⊥) → (i < word_bits) × T (has left i)
-      passing_least {i} e n =
-          let here : T (has left i) = subst (λ (i : ℕ). T (has left i)) (sym e) (lowest_has left p.small n) in
-          (has_small word_bits left i p.small here, here)
-
       -- the rest is less
       pub passing_less : (i : ℕ) → T (has left i) → {rest : ℕ} → rest ≡ removed left i → rest < left
       passing_less i here e = subst (λ (x : ℕ). x < left) (sym e) (removed_less left i here)
@@ -165,7 +157,6 @@ module _ {C : List KindLine → List ℕ → Type 0} {v count : ℕ} {ws xs : Li
             subst (λ (y : ℕ). Passing C v count ws xs Q all y t m w n) (sym r)
             (record {
               going = going_next p.going (Q i) w n some h e;
-              small = removed_small word_bits left i p.small;
               among = λ j a. p.among j (T-and_left (has left j) (not (eqb i j)) (subst T (has_removed left i j here) a));
               done =
                   λ j a.

@@ -1,5 +1,5 @@
 -- The list of pairs of boards that lost something, and what work that keeps it makes of a table. Assumes nothing.
-use Rattle.std.specs.Prelude.{◌≡◌, Bool, true, false, not, ◌||◌, ℕ, ◌+◌, ◌*◌, ◌^◌, ◌≤◌, ◌<◌, T, nat_eq, length, slice_index, set}
+use Rattle.std.specs.Prelude.{◌≡◌, Bool, true, false, not, ◌||◌, ℕ, ◌+◌, ◌*◌, ◌^◌, ◌≤◌, ◌<◌, T, Option, Some, None, nat_eq, length, slice_index, set}
 use mathlib.Core.List.{List, [], ◌∷◌, Memᴰ}
 use Rattle.std.specs.Int.Count.{ones}
 use Rattle.rules.specs.Relations.{E, has, meet, converse}
@@ -8,7 +8,7 @@ use Rattle.rules.specs.Tables.{cell, Table, Inside, emptied, total}
 use Rattle.rules.specs.Arrangements.{width}
 use Rattle.rules.specs.Closing.{Idle, agree}
 use Rattle.passes.specs.Passes.{Filled, Ready}
-use Rattle.bits.specs.Sets.{added_at}
+use Rattle.bits.specs.Sets.{added_at, removed, lowest}
 use Rattle.moves.specs.Watches.{Watch, through, feeds, feeds', apart, matches, matches'}
 
 -- The list has a word for each board, with a bit for each other board.
@@ -31,6 +31,11 @@ pub record FirstMarked (v : ℕ) (m : List ℕ) (p : ℕ) : Type 0 where
   pub most : p ≤ v
   pub before : (j : ℕ) → j < p → slice_index m j ≡ 0
   pub found : p < v → slice_index m p ≡ 0 → ⊥
+
+-- the first pair on the list m, if there is one, was taken off it, and left n
+abbrev pub PairTaken : ℕ → List ℕ → List ℕ → Option (ℕ × ℕ) → Type 0
+PairTaken v m n (Some r) = FirstMarked v m r.0 × (r.0 < v) × (r.1 ≡ lowest (slice_index m r.0)) × (n ≡ set m r.0 (removed (slice_index m r.0) r.1))
+PairTaken v m n None = FirstMarked v m v × (n ≡ m)
 
 -- how many marks there are
 unfoldable pub marks : List ℕ → ℕ

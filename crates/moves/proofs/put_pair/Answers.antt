@@ -3,6 +3,7 @@ use mathlib.Core.Path.{refl}
 use native.Mathlib.Omega.{arith}
 use Rattle.passes.proofs.Passes.{place_few, ready_place}
 use Rattle.moves.proofs.Striking.{place_after}
+use Rattle.moves.proofs.Taking.{pair_put}
 use Rattle.moves.proofs.put_pair.Goals as goal
 
 pub overflow_mul-k : goal.overflow_mul-k
@@ -26,4 +27,5 @@ bounds-cells-l c =
 
 pub returns : goal.returns
 returns c =
-    record { cells = rw c.converse.ensures; list = c.put.ensures; told = refl }
+    let pre = c.requires in
+    record { cells = rw c.converse.ensures; list = pair_put c.args.v c.args.marks.now pre.0.boards pre.1 c.args.p pre.2 _ c.args.q _ c.insert.ensures; told = refl }

@@ -7,6 +7,7 @@ ghost use Rattle.passes.specs.Passes.{Ready};
 ghost use Rattle.moves.specs.Moves.{Marks, Mutual, Went};
 ghost use Rattle.sweeps.specs.Sweeps.{Evenly, ThroughBoth, Selves, Level, Levels, RowOf, Leveled};
 
+use bits::NumberSet;
 use compositions::SET_PAIRS;
 
 // What a closing has come to: so many relations are struck, or a cell is empty and the work was left there.
@@ -24,7 +25,7 @@ pub fn through(
     p: usize,
     q: usize,
     cells: &mut [u8],
-    marks: &mut [u32],
+    marks: &mut [NumberSet],
 ) -> bool
     requires { Composes entries.now × Mutual v cells.old × Marks v marks.old × (p < v) × (q < v) }
     ensures { Went (Evenly v) v (ThroughBoth v p q) cells.old marks.old cells.new marks.new result }
@@ -50,7 +51,7 @@ pub fn through(
 
 // Rule 2 of two boards: both cells become what both sides allow. The pair is put on the list, unless all is allowed. Says whether anything is.
 #[tactic(auto, using(crate::proofs::Leveling::full_cells, crate::proofs::Leveling::full_list, crate::proofs::Leveling::full_told))]
-fn level(v: usize, p: usize, q: usize, cells: &mut [u8], marks: &mut [u32]) -> bool
+fn level(v: usize, p: usize, q: usize, cells: &mut [u8], marks: &mut [NumberSet]) -> bool
     requires { Ready v cells.old × Marks v marks.old × (p < q) × (q < v) }
     ensures { Level v p q cells.old marks.old cells.new marks.new result }
 {
@@ -66,7 +67,7 @@ fn level(v: usize, p: usize, q: usize, cells: &mut [u8], marks: &mut [u32]) -> b
 }
 
 // Rule 2 of one board and each that comes after it.
-fn level_row(v: usize, p: usize, cells: &mut [u8], marks: &mut [u32]) -> bool
+fn level_row(v: usize, p: usize, cells: &mut [u8], marks: &mut [NumberSet]) -> bool
     requires { Ready v cells.old × Marks v marks.old × (p < v) }
     ensures { Levels v (RowOf p) cells.old marks.old cells.new marks.new result }
 {
@@ -80,7 +81,7 @@ fn level_row(v: usize, p: usize, cells: &mut [u8], marks: &mut [u32]) -> bool
 
 // Rule 2 of every two boards, and the first list: every pair of which something is known is on it. Says whether no cell is empty.
 #[tactic(auto, using(crate::proofs::Leveling::sides_lost, crate::proofs::Leveling::diagonal_lost))]
-pub fn level_all(v: usize, cells: &mut [u8], marks: &mut [u32]) -> bool
+pub fn level_all(v: usize, cells: &mut [u8], marks: &mut [NumberSet]) -> bool
     requires { Ready v cells.old × Marks v marks.old × Selves v cells.old }
     ensures { Leveled v cells.old cells.new marks.new result }
 {

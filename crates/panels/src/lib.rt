@@ -12,6 +12,8 @@ ghost use Rattle.moves.specs.Visits.{Site, Keeping, Visited};
 ghost use Rattle.panels.specs.Ways.{FirstReaching};
 ghost use Rattle.panels.specs.Visits.{FedEach, FedWays, FedBare, FedWithout};
 
+use bits::NumberSet;
+use by_board::Index;
 use kinds::{KindLine, way};
 
 // Tells whether a set has E or A.
@@ -46,7 +48,7 @@ fn rule6_at(
     line: KindLine,
     z: usize,
     cells: &mut [u8],
-    marks: &mut [u32],
+    marks: &mut [NumberSet],
 ) -> bool
     requires { Mutual v cells.old × Marks v marks.old × StandsIn v words.now line × (z < v) }
     ensures { Went (Idles v (rules2 v ++ rule6 v (line_at words.now line) z)) v (Fed v (line_at words.now line) z) cells.old marks.old cells.new marks.new result }
@@ -74,20 +76,18 @@ fn rule6_each(
     v: usize,
     count: usize,
     words: &[u16],
-    found: &[u32],
-    lines: u32,
+    found: &Index,
+    lines: NumberSet,
     z: usize,
     cells: &mut [u8],
-    marks: &mut [u32],
+    marks: &mut [NumberSet],
 ) -> bool
     requires { Site v count words.now found.now cells.old marks.old × Numbers count lines × (z < v) }
     ensures { Visited (Keeping rules6 v) v count words.now (λ ks. FedEach v words.now lines z) cells.old marks.old cells.new marks.new result }
 {
     let mut left = lines;
-    while left != 0 {
-        let n = bits::lowest(left);
-        left = bits::without(left, n);
-        let line = by_board::line_of(words, found, n);
+    while let Some(n) = left.pop() {
+        let line = found.line_of(words, n);
         if !rule6_at(v, words, line, z, cells, marks) {
             return false;
         }
@@ -100,20 +100,18 @@ fn rule6_of_ways(
     v: usize,
     count: usize,
     words: &[u16],
-    found: &[u32],
+    found: &Index,
     a: usize,
     b: usize,
     cells: &mut [u8],
-    marks: &mut [u32],
+    marks: &mut [NumberSet],
 ) -> bool
     requires { Site v count words.now found.now cells.old marks.old × (a < v) × (b < v) }
     ensures { Visited (Keeping rules6 v) v count words.now (λ ks. FedWays v words.now found.now a b) cells.old marks.old cells.new marks.new result }
 {
-    let mut left = by_board::places(found, a);
-    while left != 0 {
-        let i = bits::lowest(left);
-        left = bits::without(left, i);
-        let lines = by_board::with_way(found, a, i);
+    let mut left = found.places(a);
+    while let Some(i) = left.pop() {
+        let lines = found.with_way(a, i);
         if !rule6_each(v, count, words, found, lines, b, cells, marks) {
             return false;
         }
@@ -128,11 +126,11 @@ pub fn rule6_for(
     v: usize,
     count: usize,
     words: &[u16],
-    found: &[u32],
+    found: &Index,
     a: usize,
     b: usize,
     cells: &mut [u8],
-    marks: &mut [u32],
+    marks: &mut [NumberSet],
 ) -> bool
     requires { Site v count words.now found.now cells.old marks.old × (a < v) × (b < v) }
     ensures { Visited (Keeping rules6 v) v count words.now (λ ks. FedFor v ks a b) cells.old marks.old cells.new marks.new result }
@@ -140,7 +138,7 @@ pub fn rule6_for(
     let k = v * a + b;
     let x = cells[k];
     if x == relations::A {
-        let lines = by_board::with_panel(found, a);
+        let lines = found.with_panel(a);
         return rule6_each(v, count, words, found, lines, b, cells, marks);
     }
     if reaches(x) {
@@ -154,15 +152,15 @@ fn rule6_bare(
     v: usize,
     count: usize,
     words: &[u16],
-    found: &[u32],
+    found: &Index,
     n: usize,
     cells: &mut [u8],
-    marks: &mut [u32],
+    marks: &mut [NumberSet],
 ) -> bool
     requires { Site v count words.now found.now cells.old marks.old × (n < count) }
     ensures { Visited (Keeping rules6 v) v count words.now (λ ks. FedBare v (numbered words.now n)) cells.old marks.old cells.new marks.new result }
 {
-    let line = by_board::line_of(words, found, n);
+    let line = found.line_of(words, n);
     if line.first < line.end {
         return true;
     }
@@ -179,9 +177,9 @@ pub fn rule6_without_ways(
     v: usize,
     count: usize,
     words: &[u16],
-    found: &[u32],
+    found: &Index,
     cells: &mut [u8],
-    marks: &mut [u32],
+    marks: &mut [NumberSet],
 ) -> bool
     requires { Site v count words.now found.now cells.old marks.old }
     ensures { Visited (Keeping rules6 v) v count words.now (FedWithout v) cells.old marks.old cells.new marks.new result }

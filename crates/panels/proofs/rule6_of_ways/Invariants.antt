@@ -5,8 +5,8 @@ use Rattle.moves.proofs.Passing.{Passing}
 use Rattle.panels.specs.Visits.{FedEach}
 use Rattle.panels.proofs.rule6_of_ways.Given as goal
 
-abbrev pub invariant-loop-left : goal.invariant-loop-left
-invariant-loop-left l = Passing (Keeping rules6 l.v) l.v l.count l.words l.found (λ i. FedEach l.v l.words (with_way l.found l.a i) l.b) (places_of l.found l.a) l.left l.initial.cells l.initial.marks l.cells l.marks
+abbrev pub invariant-loop-i : goal.invariant-loop-i
+invariant-loop-i l = Passing (Keeping rules6 l.v) l.v l.count l.words l.found (λ i. FedEach l.v l.words (with_way l.found l.a i) l.b) (places_of l.found l.a) l.left l.initial.cells l.initial.marks l.cells l.marks
 
-abbrev pub decreases-loop-left : goal.decreases-loop-left
-decreases-loop-left l = l.left
+abbrev pub decreases-loop-i : goal.decreases-loop-i
+decreases-loop-i l = l.left

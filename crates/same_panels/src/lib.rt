@@ -12,7 +12,8 @@ ghost use Rattle.moves.specs.Visits.{Site, Keeping, Visited};
 ghost use Rattle.same_panels.specs.Pairs.{Facing, pair_place, paired, joined, Joined};
 ghost use Rattle.same_panels.specs.Visits.{Beside, Each, ByWays, Parted, Unlisted, FirstBeside, AtFirst};
 
-use by_board::{line_of, places, with_panel, with_way};
+use bits::NumberSet;
+use by_board::Index;
 use kinds::{KindLine, way};
 
 // The place of the cell of the two ways in place i.
@@ -38,7 +39,13 @@ fn ways_match(v: usize, ways: &[u16], others: &[u16], cells: &[u8]) -> bool
 }
 
 // Strikes all but same from the cells of each two ways in the same place. Says whether none of them is empty then.
-fn match_ways(v: usize, ways: &[u16], others: &[u16], cells: &mut [u8], marks: &mut [u32]) -> bool
+fn match_ways(
+    v: usize,
+    ways: &[u16],
+    others: &[u16],
+    cells: &mut [u8],
+    marks: &mut [NumberSet],
+) -> bool
     requires { Mutual v cells.old × Marks v marks.old × Facing v ways.now others.now }
     ensures { Went (Idles v (joined v ways.now others.now)) v (λ n w. Joined v ways.now others.now w) cells.old marks.old cells.new marks.new result }
 {
@@ -57,7 +64,7 @@ fn rule7(
     line: KindLine,
     other: KindLine,
     cells: &mut [u8],
-    marks: &mut [u32],
+    marks: &mut [NumberSet],
 ) -> bool
     requires { Mutual v cells.old × Marks v marks.old × StandsIn v words.now line × StandsIn v words.now other × SameArity (line_at words.now line) (line_at words.now other) }
     ensures { Went (Idles v (rules2 v ++ rule7 v (line_at words.now line) (line_at words.now other))) v (Matched v (line_at words.now line) (line_at words.now other)) cells.old marks.old cells.new marks.new result }
@@ -87,24 +94,22 @@ fn rule7_beside(
     v: usize,
     count: usize,
     words: &[u16],
-    found: &[u32],
+    found: &Index,
     n: usize,
-    others: u32,
+    others: NumberSet,
     cells: &mut [u8],
-    marks: &mut [u32],
+    marks: &mut [NumberSet],
 ) -> bool
     requires { Site v count words.now found.now cells.old marks.old × (n < count) × Numbers count others }
     ensures { Visited (Keeping rules7 v) v count words.now (λ ks. Beside v words.now n others) cells.old marks.old cells.new marks.new result }
 {
-    let line = line_of(words, found, n);
+    let line = found.line_of(words, n);
     let mut left = others;
-    while left != 0 {
-        let o = bits::lowest(left);
-        let other = line_of(words, found, o);
+    while let Some(o) = left.pop() {
+        let other = found.line_of(words, o);
         if !rule7(v, words, line, other, cells, marks) {
             return false;
         }
-        left = bits::without(left, o);
     }
     true
 }
@@ -114,22 +119,20 @@ fn rule7_each(
     v: usize,
     count: usize,
     words: &[u16],
-    found: &[u32],
-    lines: u32,
-    others: u32,
+    found: &Index,
+    lines: NumberSet,
+    others: NumberSet,
     cells: &mut [u8],
-    marks: &mut [u32],
+    marks: &mut [NumberSet],
 ) -> bool
     requires { Site v count words.now found.now cells.old marks.old × Numbers count lines × Numbers count others }
     ensures { Visited (Keeping rules7 v) v count words.now (λ ks. Each v words.now lines others) cells.old marks.old cells.new marks.new result }
 {
     let mut left = lines;
-    while left != 0 {
-        let n = bits::lowest(left);
+    while let Some(n) = left.pop() {
         if !rule7_beside(v, count, words, found, n, others, cells, marks) {
             return false;
         }
-        left = bits::without(left, n);
     }
     true
 }
@@ -139,24 +142,22 @@ fn rule7_by_ways(
     v: usize,
     count: usize,
     words: &[u16],
-    found: &[u32],
+    found: &Index,
     a: usize,
     b: usize,
     cells: &mut [u8],
-    marks: &mut [u32],
+    marks: &mut [NumberSet],
 ) -> bool
     requires { Site v count words.now found.now cells.old marks.old × (a < most_boards) × (b < most_boards) }
     ensures { Visited (Keeping rules7 v) v count words.now (λ ks. ByWays v words.now found.now a b) cells.old marks.old cells.new marks.new result }
 {
-    let mut left = places(found, a) & places(found, b);
-    while left != 0 {
-        let i = bits::lowest(left);
-        let lines = with_way(found, a, i);
-        let others = with_way(found, b, i);
+    let mut left = found.places(a) & found.places(b);
+    while let Some(i) = left.pop() {
+        let lines = found.with_way(a, i);
+        let others = found.with_way(b, i);
         if !rule7_each(v, count, words, found, lines, others, cells, marks) {
             return false;
         }
-        left = bits::without(left, i);
     }
     true
 }
@@ -168,11 +169,11 @@ pub fn rule7_for(
     v: usize,
     count: usize,
     words: &[u16],
-    found: &[u32],
+    found: &Index,
     a: usize,
     b: usize,
     cells: &mut [u8],
-    marks: &mut [u32],
+    marks: &mut [NumberSet],
 ) -> bool
     requires { Site v count words.now found.now cells.old marks.old × (a < v) × (b < v) × Parted v count words.now marks.old cells.old }
     ensures { Visited (Keeping rules7 v) v count words.now (λ ks. MatchedFor v ks a b) cells.old marks.old cells.new marks.new result }
@@ -180,8 +181,8 @@ pub fn rule7_for(
     let k = v * a + b;
     let x = cells[k];
     if x == relations::E {
-        let lines = with_panel(found, a);
-        let others = with_panel(found, b);
+        let lines = found.with_panel(a);
+        let others = found.with_panel(b);
         return rule7_each(v, count, words, found, lines, others, cells, marks);
     }
     if relations::meet(x, relations::E) != 0 {
@@ -197,7 +198,7 @@ fn rule7_unlisted(
     line: KindLine,
     other: KindLine,
     cells: &mut [u8],
-    marks: &mut [u32],
+    marks: &mut [NumberSet],
 ) -> bool
     requires { Mutual v cells.old × Marks v marks.old × StandsIn v words.now line × StandsIn v words.now other × SameArity (line_at words.now line) (line_at words.now other) }
     ensures { Went (Idles v (rules2 v ++ rule7 v (line_at words.now line) (line_at words.now other))) v (Unlisted v (line_at words.now line) (line_at words.now other)) cells.old marks.old cells.new marks.new result }
@@ -213,17 +214,17 @@ fn rule7_first_beside(
     v: usize,
     count: usize,
     words: &[u16],
-    found: &[u32],
+    found: &Index,
     n: usize,
     cells: &mut [u8],
-    marks: &mut [u32],
+    marks: &mut [NumberSet],
 ) -> bool
     requires { Site v count words.now found.now cells.old marks.old × (n < count) }
     ensures { Visited (Keeping rules7 v) v count words.now (λ ks. FirstBeside v count words.now n) cells.old marks.old cells.new marks.new result }
 {
-    let line = line_of(words, found, n);
+    let line = found.line_of(words, n);
     for o in 0..count {
-        let other = line_of(words, found, o);
+        let other = found.line_of(words, o);
         if !rule7_unlisted(v, words, line, other, cells, marks) {
             return false;
         }
@@ -236,9 +237,9 @@ pub fn rule7_at_first(
     v: usize,
     count: usize,
     words: &[u16],
-    found: &[u32],
+    found: &Index,
     cells: &mut [u8],
-    marks: &mut [u32],
+    marks: &mut [NumberSet],
 ) -> bool
     requires { Site v count words.now found.now cells.old marks.old }
     ensures { Visited (Keeping rules7 v) v count words.now (AtFirst v) cells.old marks.old cells.new marks.new result }

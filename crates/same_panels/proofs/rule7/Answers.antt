@@ -3,26 +3,14 @@ use borrow.Author.Tests.{not-true, not-false}
 use mathlib.Core.Path.{sym, ◌∙◌}
 use native.Mathlib.Omega.{arith}
 use Rattle.rules.specs.Relations.{relations, has, set_to, set_of, complement}
-use Rattle.rules.specs.Descriptions.{KindLine}
-use Rattle.rules.specs.Arrangements.{Alike}
 use Rattle.rules.proofs.Tests.{clash}
 use Rattle.rules.proofs.Sets.{single_small}
 use Rattle.rules.proofs.Rules.{same_small}
 use Rattle.passes.proofs.Passes.{place_few, ready_place}
 use Rattle.kinds.specs.Lines.{line_at}
 use Rattle.same_panels.proofs.Matching.{rule7_apart, rule7_struck, rule7_open, rule7_joined}
-use Rattle.same_panels.proofs.rule7.Tie as tie
-use Rattle.same_panels.proofs.rule7.Lts as lts
-use Rattle.same_panels.proofs.rule7.Reads as reads
 use Rattle.same_panels.proofs.rule7.Goals as goal
 use Rattle.same_panels.proofs.rule7.Goals.{then-line-other-via-else-line-other+then-not-ways_match, then-line-other-via-then-line-other}
-
--- the two kind lines
-abbrev one : lts.Start tie.the-claims reads.Pre reads.Post → KindLine
-one start = line_at start.args.words.now start.args.line
-
-abbrev two : lts.Start tie.the-claims reads.Pre reads.Post → KindLine
-two start = line_at start.args.words.now start.args.other
 
 pub overflow_mul-k : goal.overflow_mul-k
 overflow_mul-k c = let pre = c.requires in record { fits = omega (arith, place_few pre.0.ready.boards pre.2.board pre.3.board) }
@@ -38,9 +26,10 @@ meet-requires c = (c.requires.0.ready.table.small _, single_small same_small)
 
 pub returns-then-meet-eq0 : goal.returns-then-meet-eq0
 returns-then-meet-eq0 c =
-    let start = c.before.before.before.before.before.before.before.before.before in
+    let one = line_at c.args.words.now c.args.line in
+    let two = line_at c.args.words.now c.args.other in
     let (table, marks, line, other, same) = c.requires in
-    rule7_apart c.args.v (one start) (two start) table marks line.board other.board (sym c.meet.ensures ∙ c.if-meet-eq0.true)
+    rule7_apart c.args.v one two table marks line.board other.board (sym c.meet.ensures ∙ c.if-meet-eq0.true)
 
 pub ways_match-requires : goal.ways_match-requires
 ways_match-requires c =
@@ -54,41 +43,31 @@ strike-requires c = let (table, marks, line, other, same) = c.requires in (table
 pub returns-then-line-other : goal.returns-then-line-other
 unfolding relations has set_to set_of complement
 returns-then-line-other c =
-    let start = c.before.before.before.before.before.before.before.before.before.before.before.before.before.before.before.before.before.before.before.before.before in
+    let one = line_at c.args.words.now c.args.line in
+    let two = line_at c.args.words.now c.args.other in
     let (table, marks, line, other, same) = c.requires in
-    rule7_struck c.args.v (one start) (two start) c.args.cells.now c.args.marks.now _ _ table marks line.board other.board
+    rule7_struck c.args.v one two c.args.cells.now c.args.marks.now _ _ table marks line.board other.board
     (λ alike each. (elim c.then-line-other.branch [ then-line-other-via-then-line-other w ↦ omega (arith, w.if-line-other.true, alike.0) | then-line-other-via-else-line-other+then-not-ways_match w ↦ clash (cc (not-true w.ways_match.result w.if-not-ways_match.true-raw, w.ways_match.ensures)) ])) _ c.strike.ensures
 
--- where the codes are one and each two ways may be the same
-module _ (c : lts.Else3 tie.the-claims reads.Pre reads.Post) where
-  start : lts.Start tie.the-claims reads.Pre reads.Post
-  start = c.before.before.before.before.before.before.before.before.before.before.before.before.before.before.before
-
-  -- so are the numbers of ways
-  alike : Alike (one start) (two start)
-  unfolding start
-  alike = let codes = c.if-line-other.false in (codes, start.requires.4 codes)
-
 pub returns-then-x-ne-E : goal.returns-then-x-ne-E
-unfolding start
 returns-then-x-ne-E c =
-    let both = c.before.before in
-    let (table, marks, line, other, same) = (start both).requires in
-    rule7_open (start both).args.v (one (start both)) (two (start both)) table marks line.board other.board (alike both)
-    c.ways_match.ensures (not-false _ c.if-not-ways_match.false-raw) c.if-x-ne-E.true
+    let one = line_at c.args.words.now c.args.line in
+    let two = line_at c.args.words.now c.args.other in
+    let (table, marks, line, other, same) = c.requires in
+    let codes = c.if-line-other.false in
+    rule7_open c.args.v one two table marks line.board other.board (codes, same codes) c.ways_match.ensures (not-false _ c.if-not-ways_match.false-raw) c.if-x-ne-E.true
 
 pub match_ways-requires : goal.match_ways-requires
-unfolding start
 match_ways-requires c =
-    let both = c.before.before.before.before in
-    let (table, marks, line, other, same) = (start both).requires in
-    (table, marks, record { ways = line.boards; others = other.boards; same = (alike both).1 })
+    let (table, marks, line, other, same) = c.requires in
+    (table, marks, record { ways = line.boards; others = other.boards; same = same c.if-line-other.false })
 
 pub returns : goal.returns
-unfolding start
 returns c =
-    let both = c.before.before.before.before.before.before.before.before.before in
-    let (table, marks, line, other, same) = (start both).requires in
-    rule7_joined (start both).args.v (one (start both)) (two (start both)) (start both).args.cells.now (start both).args.marks.now _ _ table marks
-    line.board other.board (alike both) (record { ways = line.boards; others = other.boards; same = (alike both).1 }) (omega arith)
+    let one = line_at c.args.words.now c.args.line in
+    let two = line_at c.args.words.now c.args.other in
+    let (table, marks, line, other, same) = c.requires in
+    let codes = c.if-line-other.false in
+    rule7_joined c.args.v one two c.args.cells.now c.args.marks.now _ _ table marks
+    line.board other.board (codes, same codes) (record { ways = line.boards; others = other.boards; same = same codes }) (omega arith)
     c.match_ways.result c.match_ways.ensures

@@ -5,8 +5,8 @@ use Rattle.same_panels.specs.Visits.{InPlace}
 use Rattle.same_panels.proofs.Finding.{shared}
 use Rattle.same_panels.proofs.rule7_by_ways.Given as goal
 
-abbrev pub invariant-loop-left : goal.invariant-loop-left
-invariant-loop-left l = Passing (Keeping rules7 l.v) l.v l.count l.words l.found (InPlace l.v l.words l.found l.a l.b) (shared l.found l.a l.b) l.left l.initial.cells l.initial.marks l.cells l.marks
+abbrev pub invariant-loop-i : goal.invariant-loop-i
+invariant-loop-i l = Passing (Keeping rules7 l.v) l.v l.count l.words l.found (InPlace l.v l.words l.found l.a l.b) (shared l.found l.a l.b) l.left l.initial.cells l.initial.marks l.cells l.marks
 
-abbrev pub decreases-loop-left : goal.decreases-loop-left
-decreases-loop-left l = l.left
+abbrev pub decreases-loop-i : goal.decreases-loop-i
+decreases-loop-i l = l.left

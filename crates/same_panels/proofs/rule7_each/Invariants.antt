@@ -4,8 +4,8 @@ use Rattle.moves.proofs.Passing.{Passing}
 use Rattle.same_panels.specs.Visits.{Beside}
 use Rattle.same_panels.proofs.rule7_each.Given as goal
 
-abbrev pub invariant-loop-left : goal.invariant-loop-left
-invariant-loop-left l = Passing (Keeping rules7 l.v) l.v l.count l.words l.found (λ n. Beside l.v l.words n l.others) l.lines l.left l.initial.cells l.initial.marks l.cells l.marks
+abbrev pub invariant-loop-n : goal.invariant-loop-n
+invariant-loop-n l = Passing (Keeping rules7 l.v) l.v l.count l.words l.found (λ n. Beside l.v l.words n l.others) l.fn.lines l.left l.initial.cells l.initial.marks l.cells l.marks
 
-abbrev pub decreases-loop-left : goal.decreases-loop-left
-decreases-loop-left l = l.left
+abbrev pub decreases-loop-n : goal.decreases-loop-n
+decreases-loop-n l = l.left

@@ -6,8 +6,9 @@ use Prim.Native.Nat.{ℕ, ◌+◌, ◌*◌, ◌^◌, ◌-◌, ◌≤◌, ◌<◌
 use native.Mathlib.Nat.{lt_of_lt_of_le, mul-le-mul}
 use native.Mathlib.Omega.{arith}
 use lib.Dec.{T}
-use lib.ListN.{length, get_or, set, replicate, length-replicate}
+use lib.ListN.{length, get_or, replicate, length-replicate}
 use lib.Pow.{pow_pos, pow_mono}
+use Rattle.std.specs.Prelude.{Some}
 use Rattle.rules.specs.Relations.{has}
 use Rattle.rules.specs.Descriptions.{most_boards, most_cells, KindLine}
 use Rattle.rules.specs.Tables.{Inside, total}
@@ -20,10 +21,10 @@ use Rattle.passes.specs.Passes.{Idles, Ready}
 use Rattle.kinds.specs.Sections.{Kinds}
 use Rattle.by_board.specs.Found.{numbered}
 use Rattle.by_board.proofs.Numbers.{numbered_out, numbered_stands}
-use Rattle.bits.specs.Sets.{word_bits, removed, lowest}
+use Rattle.bits.specs.Sets.{word_bits}
 use Rattle.bits.proofs.Laws.{lowest_has}
 use Rattle.moves.specs.Watches.{through, feeds, feeds', apart}
-use Rattle.moves.specs.Moves.{Marks, marks, FirstMarked, Mutual, Moved, Tended, Lost, FedFor, MatchedFor, Owed}
+use Rattle.moves.specs.Moves.{Marks, marks, FirstMarked, PairTaken, Mutual, Moved, Tended, Lost, FedFor, MatchedFor, Owed}
 use Rattle.moves.specs.Visits.{Keeping}
 use Rattle.moves.proofs.Moving.{off_neither, moved_then, moved_as, tended_moved}
 use Rattle.moves.proofs.Reading.{through_honest, feeds_honest, feeds'_honest, apart_honest}
@@ -136,45 +137,38 @@ module _ {v : ℕ} {ks : List KindLine} {t m u k : List ℕ} (d : Draining v ks 
       none {p} q h e = subst T (has_zero q) (subst (λ (x : ℕ). T (has x q)) (every p h) e)
 
   -- the pair that is taken off
-  module _ {p q : ℕ} (few : v ≤ most_boards) (f : FirstMarked v k p) (h : p ≡ v → ⊥) (low : q ≡ lowest (get_or k p 0)) where
-    pub first_board : p < v
-    first_board = let l : p ≤ v = f.most in omega arith
-
-    pub first_word : p < length k
-    first_word = let e : length k ≡ most_boards = d.list.words in let l = first_board in omega arith
-
-    pub first_on : T (has (get_or k p 0) q)
+  module _ {p q : ℕ} {l : List ℕ} (few : v ≤ most_boards) (off : PairTaken v k l (Some (p, q))) where
+    first_on : T (has (get_or k p 0) q)
     first_on =
-        subst (λ (x : ℕ). T (has (get_or k p 0) x)) (sym low)
-        (let wide : v ≤ word_bits = omega arith in lowest_has (get_or k p 0) (lt_of_lt_of_le (d.list.small p) (pow_mono wide)) (f.found first_board))
+        subst (λ (x : ℕ). T (has (get_or k p 0) x)) (sym off.2)
+        (let wide : v ≤ word_bits = omega arith in lowest_has (get_or k p 0) (lt_of_lt_of_le (d.list.small p) (pow_mono wide)) (off.0.found off.1))
 
     pub first_other : q < v
     first_other = has_small v (get_or k p 0) q (d.list.small p) first_on
 
     first_few : p < most_boards
-    first_few = let l = first_board in omega arith
+    first_few = let below = off.1 in omega arith
 
-    module _ (x : ℕ) (e : x ≡ removed (get_or k p 0) q) where
-      pub first_list : Marks v (set k p x)
-      first_list = subst (λ (y : ℕ). Marks v (set k p y)) (sym e) (popped_list v p q k d.list first_few first_on)
+    pub first_list : Marks v l
+    first_list = subst (Marks v) (sym off.3) (popped_list v p q k d.list first_few first_on)
 
-      module _ {w n : List ℕ} (g : Moved (Again v ks) v u (set k p x) w n) where
-        taken : Moved (Again v ks) v u (popped v p q k d.list first_few first_on) w n
-        taken = subst (λ (y : ℕ). Moved (Again v ks) v u (set k p y) w n) e g
+    module _ {w n : List ℕ} (g : Moved (Again v ks) v u l w n) where
+      taken : Moved (Again v ks) v u (popped v p q k d.list first_few first_on) w n
+      taken = subst (λ (l : List ℕ). Moved (Again v ks) v u l w n) off.3 g
 
-        pub draining_more : OnBoards v ks → Seen v ks p q n w → Draining v ks t m w n
-        draining_more boards s =
-            record {
-              fit = g.fit;
-              inside = inside_trans g.inside d.inside;
-              keeps = λ x c i. g.keeps x c (d.keeps x c i);
-              list = g.list;
-              owed = owed_popped d.list first_few first_on taken first_board first_other boards d.owed s.through.0 s.through.1 s.lines.fed s.lines.fed' s.lines.matched;
-            }
+      pub draining_more : OnBoards v ks → Seen v ks p q n w → Draining v ks t m w n
+      draining_more boards s =
+          record {
+            fit = g.fit;
+            inside = inside_trans g.inside d.inside;
+            keeps = λ x c i. g.keeps x c (d.keeps x c i);
+            list = g.list;
+            owed = owed_popped d.list first_few first_on taken off.1 first_other boards d.owed s.through.0 s.through.1 s.lines.fed s.lines.fed' s.lines.matched;
+          }
 
-        -- each turn takes something away
-        pub draining_less : 2 * total w + marks n < 2 * total u + marks k
-        draining_less = let f = taken.fewer in omega (arith, popped_fewer v p q k d.list first_few first_on)
+      -- each turn takes something away
+      pub draining_less : 2 * total w + marks n < 2 * total u + marks k
+      draining_less = let f = taken.fewer in omega (arith, popped_fewer v p q k d.list first_few first_on)
 
   -- two panels that differ are apart, whatever is on the list
   pub draining_apart : (n : List ℕ) (a : KindLine) → Memᴰ a ks → (b : KindLine) → Memᴰ b ks → Tended v n u (apart v a b)

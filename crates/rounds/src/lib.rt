@@ -13,6 +13,8 @@ ghost use Rattle.same_panels.specs.Visits.{Parted};
 ghost use Rattle.compositions.specs.Composing.{Composes};
 ghost use Rattle.rounds.specs.Rounds.{Again, LinesSeen, Seen, Owing, drained, rules_again, after_rounds};
 
+use bits::NumberSet;
+use by_board::Index;
 use compositions::SET_PAIRS;
 use panels::{rule6_for, rule6_without_ways};
 use same_panels::{rule7_at_first, rule7_for};
@@ -23,11 +25,11 @@ fn revisit_lines(
     v: usize,
     count: usize,
     words: &[u16],
-    found: &[u32],
+    found: &Index,
     p: usize,
     q: usize,
     cells: &mut [u8],
-    marks: &mut [u32],
+    marks: &mut [NumberSet],
 ) -> bool
     requires { Site v count words.now found.now cells.old marks.old × (p < v) × (q < v) × Parted v count words.now marks.old cells.old }
     ensures { Visited (Again v) v count words.now (λ ks. LinesSeen v ks p q) cells.old marks.old cells.new marks.new result }
@@ -46,12 +48,12 @@ fn revisit(
     v: usize,
     count: usize,
     words: &[u16],
-    found: &[u32],
+    found: &Index,
     entries: &[u8; SET_PAIRS],
     p: usize,
     q: usize,
     cells: &mut [u8],
-    marks: &mut [u32],
+    marks: &mut [NumberSet],
 ) -> bool
     requires { Site v count words.now found.now cells.old marks.old × Composes entries.now × (p < v) × (q < v) × Parted v count words.now marks.old cells.old }
     ensures { Visited (Again v) v count words.now (λ ks. Seen v ks p q) cells.old marks.old cells.new marks.new result }
@@ -70,25 +72,20 @@ pub fn drain(
     v: usize,
     count: usize,
     words: &[u16],
-    found: &[u32],
+    found: &Index,
     cells: &mut [u8],
-    marks: &mut [u32],
+    marks: &mut [NumberSet],
 ) -> bool
     requires { Site v count words.now found.now cells.old marks.old × Owing v count words.now marks.old cells.old }
     ensures { WithKinds v count words.now (λ ks. drained v ks cells.old cells.new marks.new result) }
 {
     let entries = compositions::composition_table();
-    loop {
-        let p = moves::first_marked(v, marks);
-        if p == v {
-            return true;
-        }
-        let q = bits::lowest(marks[p]);
-        marks[p] = bits::without(marks[p], q);
+    while let Some((p, q)) = moves::take_pair(v, marks) {
         if !revisit(v, count, words, found, &entries, p, q, cells, marks) {
             return false;
         }
     }
+    true
 }
 
 // The first visits: rule 2 of every two boards, which makes the list, and the rules of kind lines that no pair on it would bring up. Then the list is drained.
@@ -96,9 +93,9 @@ fn settle(
     v: usize,
     count: usize,
     words: &[u16],
-    found: &[u32],
+    found: &Index,
     cells: &mut [u8],
-    marks: &mut [u32],
+    marks: &mut [NumberSet],
 ) -> bool
     requires { Ready v cells.old × Selves v cells.old × Marks v marks.old × Listed v count words.now found.now }
     ensures { WithKinds v count words.now (λ ks. drained v ks cells.old cells.new marks.new result) }
@@ -121,8 +118,7 @@ pub fn rounds(v: usize, count: usize, words: &[u16], cells: &mut [u8]) -> Swept
     ensures { WithKinds v count words.now (λ ks. after_rounds v (rules_again v ks) cells.old cells.new result) }
 {
     let before = tables::members(cells);
-    let mut found = by_board::index_room();
-    by_board::index(count, words, &mut found);
+    let found = Index::new(count, words);
     let mut marks = moves::marks_room();
     if !settle(v, count, words, &found, cells, &mut marks) {
         return Swept::Emptied;

@@ -5,8 +5,8 @@ use Rattle.moves.specs.Moves.{marks}
 use Rattle.rounds.proofs.Draining.{Draining}
 use Rattle.rounds.proofs.drain.Given as goal
 
-abbrev pub invariant-loop-entries : goal.invariant-loop-entries
-invariant-loop-entries l = WithKinds l.v l.count l.words (λ ks. Draining l.v ks l.initial.cells l.initial.marks l.cells l.marks)
+abbrev pub invariant-loop-p : goal.invariant-loop-p
+invariant-loop-p l = WithKinds l.v l.count l.words (λ ks. Draining l.v ks l.initial.cells l.initial.marks l.cells l.marks)
 
-abbrev pub decreases-loop-entries : goal.decreases-loop-entries
-decreases-loop-entries l = 2 * total l.cells + marks l.marks
+abbrev pub decreases-loop-p : goal.decreases-loop-p
+decreases-loop-p l = 2 * total l.cells + marks l.marks

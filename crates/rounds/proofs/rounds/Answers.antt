@@ -10,14 +10,13 @@ use Rattle.rounds.proofs.rounds.Goals as goal
 pub members-before-requires : goal.members-before-requires
 members-before-requires c = let pre = c.requires in (pre.0.table.small, cells_few pre.0)
 
-pub index-requires : goal.index-requires
-index-requires c =
-    ((c.requires.2, (c.args.v, c.requires.0.boards, c.requires.1.0)), c.index_room-found.ensures)
+pub new-found-requires : goal.new-found-requires
+new-found-requires c = (c.requires.2, (c.args.v, c.requires.0.boards, c.requires.1.0))
 
 pub settle-requires : goal.settle-requires
 settle-requires c =
     let pre = c.requires in
-    (pre.0, pre.3, empty_list _ c.marks_room-marks.ensures, record { lines = pre.1; few = pre.2; told = c.index.ensures })
+    (pre.0, pre.3, empty_list _ c.marks_room-marks.ensures, record { lines = pre.1; few = pre.2; told = c.new-found.ensures })
 
 pub returns-then-not-settle : goal.returns-then-not-settle
 returns-then-not-settle c =

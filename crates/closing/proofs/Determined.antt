@@ -10,7 +10,7 @@ use Rattle.rules.specs.Tables.{Table, emptied, total}
 use Rattle.rules.specs.Closed.{Largest}
 use Rattle.rules.specs.Closing.{closing}
 use Rattle.rules.proofs.Largest.{closing_largest, largest_unique}
-use Rattle.contracts.specs.Promises.{OfTwo, OneOutcome}
+use Rattle.contracts.specs.Promises.{OfTwo, OneResult, OneOutcome}
 use Rattle.answers.proofs.Outcomes.{outcome_determined}
 use Rattle.passes.specs.Passes.{Filled}
 use Rattle.sheet.proofs.Described.{described}
@@ -71,8 +71,8 @@ close_listed_determined κs a asked x y d e p q =
     let means = m.1.means in
     listed_determined s a.1.1.1.0.now (asked.1 s means).fit.ready.table d.1.1.1.0.now d.1.1.1.1.0.now e.1.1.1.0.now e.1.1.1.1.0.now x y (p s means) (q s means)
 
-pub tell_kinds_determined : OneOutcome 2 tell_kinds_kinds.ps tell_kinds_kinds.r tell-kinds.Asked tell-kinds.Learnt (λ κs e. e.1.1.0.now)
-tell_kinds_determined κs a asked x y d e p q = (refl, indexed_same p.index q.index)
+pub tell_kinds_determined : OneResult 1 tell_kinds_kinds.ps tell_kinds_kinds.r tell-kinds.Asked tell-kinds.Learnt
+tell_kinds_determined κs a asked x y d e p q = indexed_same p.index q.index
 
 pub close_table_determined : OneOutcome 2 table_kinds.ps table_kinds.r table.Asked table.Learnt (λ κs e. e.1.1.0.now)
 close_table_determined κs a asked x y d e p q = outcome_determined x y d.1.1.0.now e.1.1.0.now (p ∙ sym q)

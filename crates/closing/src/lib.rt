@@ -1,18 +1,19 @@
 // Closing and opening under a description that was read: first the rules that need no second look (1, 4 and 5), then rounds of the others.
 #![tactic(auto)]
 
-ghost use Rattle.std.specs.Prelude.{◌≡◌, length, replicate};
+ghost use Rattle.std.specs.Prelude.{◌≡◌, length};
 ghost use Rattle.rules.specs.Calls.{opening, close};
 ghost use Rattle.answers.specs.Answers.{outcome};
 ghost use Rattle.headers.specs.declared.HeaderFound.TheVariants.{Good};
 ghost use Rattle.sheet.specs.Found.{description_found};
-ghost use Rattle.by_board.specs.Found.{index_words};
 ghost use Rattle.closing.specs.Closes.{Admitted, Measured, OnceUnder, ClosesUnder, ClosedInto, Steady, Under, Told, Listing, closes_listed};
 
 use answers::limits::HEADER_WORDS;
 use answers::refusals::CONTRADICTORY;
 use answers::rooms::table_room;
 use answers::{Answer, refuse, succeed};
+use bits::NumberSet;
+use by_board::Index;
 use headers::Header;
 use relations::full_room;
 use sweeps::Swept;
@@ -41,12 +42,12 @@ fn close_again(h: Header, words: &[u16], cells: &mut [u8]) -> Swept
 }
 
 // Tells the kind lines of a description by board, once for all closings by a list.
-pub fn tell_kinds(h: Header, words: &[u16], found: &mut [u32])
-    requires { (Good h ≡ description_found words.now) × (found.old ≡ replicate index_words 0) }
-    ensures { Told h words.now found.new }
+pub fn tell_kinds(h: Header, words: &[u16]) -> Index
+    requires { Good h ≡ description_found words.now }
+    ensures { Told h words.now result }
 {
     let kinds_at = h.kinds.at;
-    by_board::index(h.kinds.count, &words[kinds_at..], found);
+    Index::new(h.kinds.count, &words[kinds_at..])
 }
 
 // Closes cells that lie inside a closed table by the list of what was narrowed in it. Says whether no cell is empty, and then nothing is on the list; else cells
@@ -54,9 +55,9 @@ pub fn tell_kinds(h: Header, words: &[u16], found: &mut [u32])
 pub fn close_listed(
     h: Header,
     words: &[u16],
-    found: &[u32],
+    found: &Index,
     cells: &mut [u8],
-    marks: &mut [u32],
+    marks: &mut [NumberSet],
 ) -> bool
     requires { Told h words.now found.now × Under words.now (λ s. Listing s marks.old cells.old) }
     ensures { Under words.now (λ s. closes_listed s cells.old cells.new marks.new result) }

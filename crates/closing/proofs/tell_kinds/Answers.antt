@@ -5,23 +5,23 @@ use Rattle.closing.proofs.tell_kinds.Goals as goal
 
 pub offset_bounds-words-kinds_at : goal.offset_bounds-words-kinds_at
 offset_bounds-words-kinds_at c =
-    let d = described c.args.words.now c.args.h c.requires.0 in
+    let d = described c.args.words.now c.args.h c.requires in
     record { fits = omega (arith, d.1.within, c.well_formed.1.0.1) }
 
-pub slice_bounds-index-count : goal.slice_bounds-index-count
-slice_bounds-index-count c =
-    let d = described c.args.words.now c.args.h c.requires.0 in
+pub slice_bounds-new-count : goal.slice_bounds-new-count
+slice_bounds-new-count c =
+    let d = described c.args.words.now c.args.h c.requires in
     d.1.within
 
-pub slice_bounds-index-start : goal.slice_bounds-index-start
-slice_bounds-index-start c =
-    let d = described c.args.words.now c.args.h c.requires.0 in
+pub slice_bounds-new-start : goal.slice_bounds-new-start
+slice_bounds-new-start c =
+    let d = described c.args.words.now c.args.h c.requires in
     d.1.within
 
-pub index-requires : goal.index-requires
-index-requires c =
-    let d = described c.args.words.now c.args.h c.requires.0 in
-    ((d.1.few_kinds, (c.args.h.boards, d.1.few, (described_agreed d.1).0)), c.requires.1)
+pub new-requires : goal.new-requires
+new-requires c =
+    let d = described c.args.words.now c.args.h c.requires in
+    (d.1.few_kinds, (c.args.h.boards, d.1.few, (described_agreed d.1).0))
 
 pub returns : goal.returns
-returns c = record { header = c.requires.0; index = c.index.ensures }
+returns c = record { header = c.requires; index = c.new.ensures }

@@ -8,6 +8,7 @@ ghost use Rattle.choosing.specs.Pairs.{IsPair};
 ghost use Rattle.choosing.specs.Choices.{Bytes, NextOpen, LastOpen, Standing, Restored};
 
 use crate::pairs::{Pair, after, before, start};
+use bits::NumberSet;
 
 // What a search does next: it tries at a pair, or it has found an arrangement, or every choice has failed.
 #[derive(Drop)]
@@ -65,7 +66,7 @@ pub(crate) fn rebuild(
     choices: &[u8],
     count: usize,
     cells: &mut [u8],
-    marks: &mut [u32],
+    marks: &mut [NumberSet],
 )
     requires { Mutual v first.now × (0 < v) × Order order.now × Bytes v choices.now × (count ≤ length (places v)) × (length cells.old ≡ length first.now) × (length marks.old ≡ most_boards) × Standing v order.now choices.now first.now count }
     ensures { Restored v order.now choices.now first.now count cells.new marks.new }

@@ -12,6 +12,8 @@ ghost use Rattle.choosing.specs.Tries.{Failed, retreats, relists, Trying, Tried,
 
 use crate::choices::{Next, last_open, next_open, rebuild};
 use crate::pairs::{Pair, after, start};
+use bits::NumberSet;
+use by_board::Index;
 use headers::Header;
 
 // How a search ended: with an arrangement or with none, after so many tries, or out of budget.
@@ -30,7 +32,7 @@ fn retreat(
     at: Pair,
     choices: &mut [u8],
     cells: &mut [u8],
-    marks: &mut [u32],
+    marks: &mut [NumberSet],
 ) -> Next
     requires { Failed v order.now first.now at choices.old cells.old marks.old }
     ensures { retreats v order.now first.now at choices.old choices.new cells.new marks.new result }
@@ -47,13 +49,13 @@ fn retreat(
 fn attempt(
     h: Header,
     words: &[u16],
-    found: &[u32],
+    found: &Index,
     order: &[u8],
     first: &[u8],
     at: Pair,
     choices: &mut [u8],
     cells: &mut [u8],
-    marks: &mut [u32],
+    marks: &mut [NumberSet],
 ) -> Next
     requires { Trying h words.now found.now order.now first.now at choices.old cells.old marks.old }
     ensures { Under words.now (λ s. Tried s order.now first.now at choices.old choices.new cells.new result × relists s cells.new marks.new result) }
@@ -73,13 +75,13 @@ fn attempt(
 pub fn choose(
     h: Header,
     words: &[u16],
-    found: &[u32],
+    found: &Index,
     order: &[u8],
     budget: u32,
     first: &[u8],
     choices: &mut [u8],
     cells: &mut [u8],
-    marks: &mut [u32],
+    marks: &mut [NumberSet],
 ) -> Ended
     requires { Choosing h words.now found.now order.now first.now choices.old cells.old marks.old }
     ensures { Under words.now (λ s. ends (choose (closing s) order.now (places s.boards) first.now) budget cells.new result) }

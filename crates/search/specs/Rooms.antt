@@ -4,20 +4,18 @@ use Rattle.rules.specs.Descriptions.{most_boards}
 use Rattle.rules.specs.Search.{Order}
 use Rattle.rules.specs.Calls.{Outcome, refuse, succeed}
 use Rattle.headers.specs.declared.Header.{Header}
-use Rattle.by_board.specs.Found.{index_words}
 use Rattle.closing.specs.Closes.{Admitted}
 use Rattle.choosing.specs.declared.Ended.{Ended}
 use Rattle.choosing.specs.declared.Ended.TheVariants.{Arranged, Nowhere, RanOut}
 use Rattle.choosing.specs.Choices.{Bytes}
 
 -- a table that was admitted, an order, and room for a search of it
-pub record Roomy (h : Header) (ws ord t first cs u xs l : List ℕ) : Type 0 where
+pub record Roomy (h : Header) (ws ord t first cs u l : List ℕ) : Type 0 where
   pub admitted : Admitted h ws t
   pub order : Order ord
   pub start : length first ≡ length t
   pub bytes : Bytes h.boards cs
   pub cells : length u ≡ length t
-  pub index : xs ≡ replicate index_words 0
   pub list : l ≡ replicate most_boards 0
 
 -- the outcome where the tries within the budget b ended so, with the cells w

@@ -11,7 +11,7 @@ ghost use Rattle.search.specs.Rooms.{concluded, Roomy};
 use answers::refusals::{NOWHERE, RAN_OUT};
 use answers::rooms::{pairs_room, table_room};
 use answers::{Answer, refuse, succeed};
-use by_board::index_room;
+use bits::NumberSet;
 use choosing::Ended;
 use headers::Header;
 use moves::marks_room;
@@ -32,7 +32,7 @@ fn conclude(ended: Ended, budget: u32, cells: &[u8], table: &mut [u8]) -> Answer
     }
 }
 
-// Searches in room for the first closed table, for the choices, for the cells of the try at hand, for the kind lines by board and for the list of pairs.
+// Searches in room for the first closed table, for the choices, for the cells of the try at hand and for the list of pairs.
 fn search_in_room(
     h: Header,
     words: &[u16],
@@ -42,19 +42,20 @@ fn search_in_room(
     first: &mut [u8],
     choices: &mut [u8],
     cells: &mut [u8],
-    found: &mut [u32],
-    marks: &mut [u32],
+    marks: &mut [NumberSet],
 ) -> Answer
-    requires { Roomy h words.now order.now table.old first.old choices.old cells.old found.old marks.old }
+    requires { Roomy h words.now order.now table.old first.old choices.old cells.old marks.old }
     ensures { outcome result table.new ≡ searching order.now words.now table.old budget }
 {
     tables::copy(table, first);
     let Swept::Struck(_) = closing::close_cells(h, words, first) else {
         return refuse(NOWHERE, 0);
     };
-    closing::tell_kinds(h, words, found);
+    let found = closing::tell_kinds(h, words);
     tables::copy(first, cells);
-    let ended = choosing::choose(h, words, found, order, budget, first, choices, cells, marks);
+    let ended = choosing::choose(
+        h, words, &found, order, budget, first, choices, cells, marks,
+    );
     conclude(ended, budget, cells, table)
 }
 
@@ -69,7 +70,6 @@ pub fn search_table(h: Header, words: &[u16], order: &[u8], budget: u32, table: 
     let mut first = table_room();
     let mut choices = pairs_room();
     let mut cells = table_room();
-    let mut found = index_room();
     let mut marks = marks_room();
     search_in_room(
         h,
@@ -80,7 +80,6 @@ pub fn search_table(h: Header, words: &[u16], order: &[u8], budget: u32, table: 
         &mut first[..n],
         &mut choices,
         &mut cells[..n],
-        &mut found,
         &mut marks,
     )
 }

@@ -12,13 +12,13 @@ pub returns-in_default : goal.returns-in_default
 returns-in_default c =
     search_emptied c.requires.admitted c.copy.ensures _ _ c.close_cells.ensures c.args.order.now c.args.budget c.in_default.is c.refuse.ensures
 
-pub tell_kinds-requires : goal.tell_kinds-requires
-tell_kinds-requires c = let pre = c.requires in (pre.admitted.header, pre.index)
+pub tell_kinds-found-requires : goal.tell_kinds-found-requires
+tell_kinds-found-requires c = c.requires.admitted.header
 
 pub choose-ended-requires : goal.choose-ended-requires
 choose-ended-requires c =
     record {
-      told = c.tell_kinds.ensures;
+      told = c.tell_kinds-found.ensures;
       list = empty_list c.args.marks.now c.requires.list;
       order = c.requires.order;
       bytes = c.requires.bytes;

@@ -25,6 +25,5 @@ search_in_room-requires c =
       start = room_taken pre.0.ready c.table_room-first.ensures;
       bytes = room_bytes pre.0.ready.boards c.pairs_room-choices.ensures;
       cells = room_taken pre.0.ready c.table_room-cells.ensures;
-      index = c.index_room-found.ensures;
       list = c.marks_room-marks.ensures;
     }

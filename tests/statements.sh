@@ -41,7 +41,7 @@ function files(cell, folder, a,    part, n, i, k) {
 }
 # the function with which a row or a span begins, and the crate of either
 function callee(cell) {
-    if (cell ~ /^`?[a-z0-9_]+(::[a-z0-9_]+)+(\(|$)/) { sub(/^`/, "", cell); sub(/\(.*/, "", cell) }
+    if (cell ~ /^`?[a-z0-9_]+(::[A-Za-z0-9_]+)+(\(|$)/) { sub(/^`/, "", cell); sub(/\(.*/, "", cell) }
     return cell
 }
 function crate(cell) {
@@ -123,11 +123,13 @@ opening() {
     '
 }
 
-# The public functions of the crates that are no programs, as things.
+# The public functions of the crates that are no programs, as things; a method after its type.
 public_functions() {
     for folder in crates/*/src; do
         [ -f "$folder/main.rt" ] || find "$folder" -name '*.rt'
     done | xargs awk '
+        /^impl[ <]/ { type = $0; sub(/ *\{.*/, "", type); sub(/^.* /, "", type); sub(/<.*/, "", type) }
+        /^}/ { type = "" }
         /^ *pub ([a-z]+ |"C" )*fn / {
             module = FILENAME
             sub(/^crates\//, "", module)
@@ -137,6 +139,7 @@ public_functions() {
             gsub(/\//, "::", module)
             sub(/^ *pub ([a-z]+ |"C" )*fn /, "")
             sub(/[^A-Za-z0-9_].*/, "")
+            if (type != "") module = module "::" type
             print "function " module "::" $0 "\t" FILENAME ":" FNR "\tdocs/STATEMENTS.md"
         }
     '
@@ -152,7 +155,8 @@ functions() {
     over '$3 ~ /^[a-z0-9_]+::/ { print "function " callee($3), $2, "the tree" }' "$room/marks" >>"$room/references"
 }
 
-# The functions that the code of each crate names of other crates, as things. An import names each that it has in braces, and may go on in further lines.
+# The functions that the code of each crate names of other crates, as things. An import names each that it has in braces, and may go on in further lines. Of a
+# method that is called on a value, or named after its type, it is known that some method of this name is named in the crate.
 named_functions() {
     kept -path '*/src/*' -name '*.rt' | xargs awk '
         # what a list of an import names after the path that stands before its braces
@@ -176,7 +180,16 @@ named_functions() {
                 if (index(name, part[2] "::") != 1) print "function " name
             }
         }
+        function called(text,    name) {
+            while (match(text, /(\.|[A-Z][A-Za-z0-9]*::)[a-z0-9_]+/)) {
+                name = substr(text, RSTART, RLENGTH)
+                text = substr(text, RSTART + RLENGTH)
+                sub(/.*[.:]/, "", name)
+                print "method " name " in " part[2]
+            }
+        }
         { split(FILENAME, part, "/"); sub(/\/\/.*/, "") }
+        { called($0) }
         sub(/^ *(pub(\([a-z]+\))? +)?use +/, "") { import = 1; text = "" }
         !import { named($0); next }
         { text = text $0 }
@@ -190,10 +203,17 @@ needed() {
     named_functions >"$room/named"
     sed -n 's/^\([a-z0-9_]*\) staticlib:.*/\1/p' crates.txt >"$room/for_c"
     over '
-        FILENAME == ARGV[1] { named[$1]; next }
+        FILENAME == ARGV[1] { named[$1]; if (split($1, part, " ") == 4) crates[part[2]] = crates[part[2]] " " part[4] " "; next }
         FILENAME == ARGV[2] { named_by_c["function " $1]; next }
-        { split($1, part, "::") }
-        !($1 in named) && !(part[1] in named_by_c) { print $2 ": " $1 " is public, and no other crate names it" }
+        { n = split($1, part, "::"); used = $1 in named }
+        n > 2 && part[n - 1] ~ /^[A-Z]/ {
+            others = crates[part[n]]
+            own = part[1]
+            sub(/^function /, "", own)
+            gsub(" " own " ", "", others)
+            used = others != ""
+        }
+        !used && !(part[1] in named_by_c) { print $2 ": " $1 " is public, and no other crate names it" }
     ' "$room/named" "$room/for_c" "$room/public" >>"$room/differences"
 }
 

@@ -1,2 +1,3 @@
 -- The laws behind the functions of this crate.
+pub mod Table
 pub mod Determined

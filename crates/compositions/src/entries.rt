@@ -1,7 +1,7 @@
 // What two sets of relations compose to: that of x and y stands at SETS times x plus y.
 use crate::SET_PAIRS;
 
-pub(crate) const COMPOSITIONS: [u8; SET_PAIRS] = [
+pub(crate) const ENTRIES: [u8; SET_PAIRS] = [
     0, // nothing with nothing
     0, // nothing with E
     0, // nothing with A

@@ -4,14 +4,12 @@
 mod entries;
 
 ghost use Rattle.std.specs.Prelude.{◌≡◌, ◌<◌};
-ghost use Rattle.rules.specs.Relations.{relations, set_limit, composed, compose};
-ghost use Rattle.compositions.specs.Composing.{Composes};
+ghost use Rattle.rules.specs.Relations.{relations, composed, compose};
 
-use answers::widths::byte_number;
-use relations::{RELATIONS, SETS};
+use relations::{RELATIONS, RelationSet, SETS};
 
 // How many pairs of sets there are.
-pub const SET_PAIRS: usize = SETS * SETS;
+const SET_PAIRS: usize = SETS * SETS;
 
 // The sixteen compositions of single relations: what p to r may be, given p to q (row) and q to r (column).
 const SINGLES: [[u8; RELATIONS]; RELATIONS] = [
@@ -29,17 +27,13 @@ fn composed(r: usize, s: usize) -> u8
     SINGLES[r][s]
 }
 
-// Gives the compositions of all pairs of sets. They are lent to `compose`, so that a loop lays them out once.
-pub fn composition_table() -> [u8; SET_PAIRS]
-    ensures { Composes result }
-{
-    entries::COMPOSITIONS
-}
+// The compositions of all pairs of sets, laid out once for all.
+static COMPOSITIONS: [u8; SET_PAIRS] = entries::ENTRIES;
 
 // Gives what two sets compose to, by the table of compositions.
-pub fn compose(table: &[u8; SET_PAIRS], x: u8, y: u8) -> u8
-    requires { Composes table.now × (x < set_limit) × (y < set_limit) }
+pub fn compose(x: RelationSet, y: RelationSet) -> RelationSet
     ensures { result ≡ compose x y }
 {
-    table[SETS * byte_number(x) + byte_number(y)]
+    let row = SETS * usize::from(u8::from(x));
+    RelationSet::new(COMPOSITIONS[row + usize::from(u8::from(y))])
 }

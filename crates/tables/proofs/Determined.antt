@@ -1,8 +1,10 @@
 -- Any two answers and tables that a contract of this crate permits are equal. Assumes nothing.
 use mathlib.Core.Path.{refl, sym, ◌∙◌}
 use Rattle.contracts.specs.Promises.{OneResult, OneOutcome}
-use Rattle.tables.proofs.copy.Kinds as copy_kinds
-use Rattle.tables.proofs.copy.Reads as copy
+use Rattle.tables.proofs.read_cells.Kinds as read_cells_kinds
+use Rattle.tables.proofs.read_cells.Reads as read_cells
+use Rattle.tables.proofs.write_cells.Kinds as write_cells_kinds
+use Rattle.tables.proofs.write_cells.Reads as write_cells
 use Rattle.tables.proofs.as_asked.Kinds as as_asked_kinds
 use Rattle.tables.proofs.as_asked.Reads as as-asked
 use Rattle.tables.proofs.narrow.Kinds as narrow_kinds
@@ -10,8 +12,11 @@ use Rattle.tables.proofs.narrow.Reads as narrow
 use Rattle.tables.proofs.members.Kinds as members_kinds
 use Rattle.tables.proofs.members.Reads as members
 
-pub copy_determined : OneOutcome 2 copy_kinds.ps copy_kinds.r copy.Asked copy.Learnt (λ κs e. e.1.0.now)
-copy_determined κs a asked x y d e p q = (refl, p ∙ sym q)
+pub read_cells_determined : OneOutcome 2 read_cells_kinds.ps read_cells_kinds.r read_cells.Asked read_cells.Learnt (λ κs e. e.1.0.now)
+read_cells_determined κs a asked x y d e p q = (refl, p ∙ sym q)
+
+pub write_cells_determined : OneOutcome 2 write_cells_kinds.ps write_cells_kinds.r write_cells.Asked write_cells.Learnt (λ κs e. e.1.0.now)
+write_cells_determined κs a asked x y d e p q = (refl, p ∙ sym q)
 
 pub as_asked_determined : OneResult 1 as_asked_kinds.ps as_asked_kinds.r as-asked.Asked as-asked.Learnt
 as_asked_determined κs a asked x y d e p q = p ∙ sym q

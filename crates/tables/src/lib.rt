@@ -8,13 +8,25 @@ ghost use Rattle.rules.specs.Tables.{total};
 ghost use Rattle.passes.specs.Passes.{Narrowed};
 ghost use Rattle.tables.specs.Asks.{asks};
 
-// Copies the cells of one table to another with as many.
-pub fn copy(from: &[u8], to: &mut [u8])
-    requires { length to.old ≡ length from.now }
-    ensures { to.new ≡ from.now }
+use relations::{RelationSet, SETS};
+
+// Reads the cells of a lent table, each of which is a set, as sets.
+pub fn read_cells(table: &[u8], cells: &mut [RelationSet])
+    requires { ((k : ℕ) → slice_index table.now k < set_limit) × (length cells.old ≡ length table.now) }
+    ensures { cells.new ≡ table.now }
 {
-    for i in 0..from.len() {
-        to[i] = from[i];
+    for (i, &byte) in table.iter().enumerate() {
+        cells[i] = RelationSet::new(byte);
+    }
+}
+
+// Writes sets to the cells of a lent table.
+pub fn write_cells(cells: &[RelationSet], table: &mut [u8])
+    requires { length table.old ≡ length cells.now }
+    ensures { table.new ≡ cells.now }
+{
+    for (i, &cell) in cells.iter().enumerate() {
+        table[i] = u8::from(cell);
     }
 }
 
@@ -23,16 +35,14 @@ fn sets_only(table: &[u8]) -> bool
     ensures { result ≡ each_of (λ x. nat_lt x set_limit) table.now }
 {
     let mut sets = true;
-    for i in 0..table.len() {
-        if relations::FULL < table[i] {
-            sets = false;
-        }
+    for &byte in table {
+        sets &= usize::from(byte) < SETS;
     }
     sets
 }
 
 // What a call asks for in the table that it is lent: a cell for each two boards, or besides that each cell is a set.
-#[derive(Drop)]
+#[derive(Clone, Copy, Debug, PartialEq, Eq)]
 pub enum Asked {
     Cells,
     Sets,
@@ -53,27 +63,27 @@ pub fn as_asked(v: usize, table: &[u8], asked: Asked) -> bool
 }
 
 // Narrows one cell to what the bound has too, and says how many relations that struck.
-pub fn narrow(cells: &mut [u8], k: usize, bound: u8) -> u32
-    requires { (k < length cells.old) × (slice_index cells.old k < set_limit) × (bound < set_limit) }
+pub fn narrow(cells: &mut [RelationSet], k: usize, bound: RelationSet) -> u32
+    requires { k < length cells.old }
     ensures { Narrowed cells.old k bound cells.new result }
 {
     let was = cells[k];
-    let is = relations::meet(was, bound);
+    let is = was & bound;
     if is == was {
         return 0;
     }
     cells[k] = is;
-    relations::size(was) - relations::size(is)
+    was.len() - is.len()
 }
 
 // How many relations the cells have, all together.
-pub fn members(cells: &[u8]) -> u32
-    requires { ((k : ℕ) → slice_index cells.now k < set_limit) × (length cells.now ≤ most_cells) }
+pub fn members(cells: &[RelationSet]) -> u32
+    requires { length cells.now ≤ most_cells }
     ensures { result ≡ total cells.now }
 {
     let mut count = 0;
-    for k in 0..cells.len() {
-        count += relations::size(cells[k]);
+    for cell in cells {
+        count += cell.len();
     }
     count
 }

@@ -1,42 +1,36 @@
--- `pick` meets its contract: what is picked is picked from the place that the walk along the order has come to. The measure is what is left of the
--- order. Assumes nothing.
-use mathlib.Core.Path.{refl, sym, ap, ◌∙◌, subst}
-use Prim.Native.Nat.{ℕ, ◌<◌}
-use native.Mathlib.Omega.{arith}
-use Rattle.rules.specs.Relations.{set_limit, meet}
-use Rattle.rules.proofs.Sets.{single_small}
-use Rattle.orders.proofs.Picking.{order_small, picked, passed, picked_none}
+-- `pick` meets its contract: what is picked is picked from the place that the walk along the order has come to. Assumes nothing.
+use mathlib.Core.Path.{◌≡◌, sym, ap, ◌∙◌}
+use Prim.Native.Nat.{ℕ, ◌^◌}
+use lib.ListN.{get_or}
+use Rattle.std.proofs.lemmas.Bool.{eqb-true, eqb-false}
+use Rattle.std.proofs.lemmas.Grind.{get_or_default_zero}
+use Rattle.rules.specs.Relations.{meet}
+use Rattle.orders.proofs.Picking.{picked, passed, picked_none}
+use Rattle.orders.proofs.pick.Tie as tie
+use Rattle.orders.proofs.pick.Lts as lts
+use Rattle.orders.proofs.pick.Reads as reads
 use Rattle.orders.proofs.pick.Goals as goal
 
-pub loop-i-init : goal.loop-i-init
-loop-i-init c = refl
+-- the set of the relation that the walk has come to
+module _ (c : lts.After-is_empty tie.the-claims reads.Pre reads.Post goal.the-invariant-loop-relation goal.the-decreases-loop-relation) where
+  one : c.from-one.result ≡ 2 ^ get_or c.args.order.now c.loop-relation.relation-index 0
+  one =
+      c.from-one.ensures
+      ∙ ap (λ (r : ℕ). 2 ^ r) (c.relation-item.is ∙ get_or_default_zero c.args.order.now _ c.relation-item.result c.loop-relation-test.true)
 
-pub bounds-order-i : goal.bounds-order-i
-bounds-order-i c = omega (arith, c.loop-i-test.true)
+  shared : c.bitand.result ≡ meet c.args.set (2 ^ get_or c.args.order.now c.loop-relation.relation-index 0)
+  shared = c.bitand.ensures ∙ ap (meet c.args.set) one
 
-pub single-one-requires : goal.single-one-requires
-single-one-requires c = order_small c.requires.0 c.loop-i.i c.loop-i-test.true
+pub returns-then-not-is_empty : goal.returns-then-not-is_empty
+returns-then-not-is_empty c =
+    one c.before
+    ∙ picked c.args.order.now c.args.set c.loop-relation.relation-index c.loop-relation-test.true c.loop-relation.invariant (shared c.before)
+    (eqb-false _ _ (sym c.is_empty.ensures ∙ c.if-not-is_empty.true))
 
-pub meet-requires : goal.meet-requires
-meet-requires c =
-    (c.requires.1, subst (λ (x : ℕ). x < set_limit) (sym c.single-one.ensures) (single_small (order_small c.requires.0 c.loop-i.i c.loop-i-test.true)))
-
-pub returns-then-meet-ne0 : goal.returns-then-meet-ne0
-returns-then-meet-ne0 c =
-    let loop = c.loop-i in
-    let one = c.single-one.ensures in
-    one ∙ picked c.args.order.now c.args.set loop.i c.loop-i-test.true loop.invariant
-    (c.meet.ensures ∙ ap (meet c.args.set) one) c.if-meet-ne0.true
-
-pub loop-i-smaller : goal.loop-i-smaller
-loop-i-smaller c = omega (arith, c.loop-i-test.true)
-
-pub loop-i-preserved : goal.loop-i-preserved
-loop-i-preserved c =
-    let loop = c.loop-i in
-    passed c.args.order.now c.args.set loop.i c.loop-i-test.true loop.invariant c.requires.0
-    (c.meet.ensures ∙ ap (meet c.args.set) c.single-one.ensures) c.if-meet-ne0.false
+pub loop-relation-preserved : goal.loop-relation-preserved
+loop-relation-preserved c =
+    passed c.args.order.now c.args.set c.loop-relation.relation-index c.loop-relation-test.true c.loop-relation.invariant c.requires (shared c.before)
+    (eqb-true _ _ (sym c.is_empty.ensures ∙ c.if-not-is_empty.false))
 
 pub returns : goal.returns
-returns c =
-    picked_none c.args.order.now c.args.set c.loop-i.i c.loop-i-test.false c.loop-i.invariant
+returns c = picked_none c.args.order.now c.args.set c.loop-relation.relation-index c.loop-relation-test.false c.loop-relation.invariant

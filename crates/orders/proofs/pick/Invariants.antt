@@ -1,5 +1,5 @@
 use Rattle.orders.proofs.Picking.{From}
 use Rattle.orders.proofs.pick.Given as goal
 
-abbrev pub invariant-loop-i : goal.invariant-loop-i
-invariant-loop-i l = From l.order l.set l.i
+abbrev pub invariant-loop-relation : goal.invariant-loop-relation
+invariant-loop-relation l = From l.order l.set l.relation-index

@@ -6,10 +6,11 @@ use mathlib.Core.List.{List}
 use Prim.Native.Nat.{ℕ, ◌≤◌, ◌<◌}
 use native.Mathlib.Omega.{arith}
 use lib.ListN.{get_or, set}
-use Rattle.std.specs.Prelude.{Option, Some, None}
+use Rattle.std.specs.Prelude.{Option, Some, None, Result}
 use Rattle.rules.proofs.Tests.{order_cases}
 use Rattle.bits.specs.Sets.{removed, lowest}
 use Rattle.contracts.specs.Promises.{OneResult, OneOutcome}
+use Rattle.moves.specs.declared.Emptied.{Emptied}
 use Rattle.moves.specs.Moves.{FirstMarked, PairTaken, PairPut}
 use Rattle.moves.proofs.marks_room.Kinds as marks_room_kinds
 use Rattle.moves.proofs.marks_room.Reads as marks-room
@@ -49,8 +50,8 @@ pub take_pair_determined : OneOutcome 1 take_pair_kinds.ps take_pair_kinds.r tak
 take_pair_determined κs a asked x y d e p q = one_pair _ _ _ _ x y p q
 
 -- the answer, the table and the list
-one_put : {idle : Bool} {v p q x : ℕ} {t m w n u k : List ℕ} {some else : Bool} → PairPut idle v p q x t m w n some → PairPut idle v p q x t m u k else
-    → (some ≡ else) × (◌≡◌ {A = List ℕ × List ℕ} (w, n) (u, k))
+one_put : {idle : Bool} {v p q x : ℕ} {t m w n u k : List ℕ} {r s : Result (Unit {0}) Emptied} → PairPut idle v p q x t m w n r → PairPut idle v p q x t m u k s
+    → (r ≡ s) × (◌≡◌ {A = List ℕ × List ℕ} (w, n) (u, k))
 one_put f g = (f.told ∙ sym g.told, ap₂ (λ (w n : List ℕ). (w, n)) (f.cells ∙ sym g.cells) (f.list ∙ sym g.list))
 
 pub put_pair_determined : OneOutcome 2 put_pair_kinds.ps put_pair_kinds.r put-pair.Asked put-pair.Learnt {X = List ℕ × List ℕ}

@@ -24,6 +24,8 @@ use Rattle.passes.specs.Passes.{Filled}
 use Rattle.bits.specs.Sets.{added, added_at}
 use Rattle.bits.proofs.Laws.{has_added, added_small, ones_added}
 use Rattle.moves.specs.Watches.{Watch, Honest}
+use Rattle.std.specs.Prelude.{Ok, Err}
+use Rattle.moves.specs.declared.Emptied.{Emptied}
 use Rattle.moves.specs.Moves.{Marks, listed, Off, marks, Mirrored, Mutual, written_both, noted, kept_of, Struck, Moved, Tended, Lost}
 use Rattle.moves.proofs.Striking.{written_here, written_there, written_back, put_some, put_lost}
 
@@ -260,7 +262,7 @@ module _ {C : List ℕ → Type 0} {v : ℕ} where
   -- A strike at (p, q) by the set b, if every table that is to be kept lies within b there and is turned.
   module _ {p q b : ℕ} {t m w n : List ℕ} (u : Mutual v t) (l : Marks v m) (hp : p < v) (hq : q < v)
       (c : (x : List ℕ) → C x → (cell v x p q lies_within b) × (cell v x q p lies_within converse (cell v x p q))) where
-    pub strike_moved : Struck v p q b t m w n true → Moved C v t m w n
+    pub strike_moved : Struck v p q b t m w n (Ok tt) → Moved C v t m w n
     strike_moved s = go (eqb (kept_of v t p q b) (cell v t p q)) refl
       where
         some : kept_of v t p q b ≡ 0 → ⊥
@@ -295,10 +297,10 @@ module _ {C : List ℕ → Type 0} {v : ℕ} where
                   fewer = omega (arith, less, noted_few v p q m l u.ready.boards hp hq);
                 }
 
-    pub strike_lost : Struck v p q b t m w n false → Lost C v t
+    pub strike_lost : {d : Emptied} → Struck v p q b t m w n (Err d) → Lost C v t
     strike_lost s x h d i = put_lost s hp hq h (meet_largest (i.each (v * p + q)) (c x d).0)
 
-    pub strike_within : Struck v p q b t m w n true → cell v w p q lies_within b
+    pub strike_within : Struck v p q b t m w n (Ok tt) → cell v w p q lies_within b
     strike_within s =
         subst (λ (y : List ℕ). cell v y p q lies_within b) (sym s.cells)
         (subst (λ (y : ℕ). y lies_within b) (sym (here v p q b t u hp hq (put_some s))) (meet_right (cell v t p q) b))

@@ -1,13 +1,13 @@
--- One visit to the rules of kind lines after another, each of which says whether it goes on: to the numbers below a number, and to those of a set. What is to
+-- One visit to the rules of kind lines after another, each of which tells whether it was left at an empty cell: to the numbers below a number, and to those of a set. What is to
 -- be kept depends on the kind lines, of which it is only known that they fill the words. Assumes nothing.
 use mathlib.Core.Path.{◌≡◌, refl, sym, ◌∙◌, subst}
-use mathlib.Core.Bool.{Bool, true, false, not}
+use mathlib.Core.Bool.{not}
 use mathlib.Core.Logic.{◌⊎◌, inl, inr, ⊎_elim}
 use mathlib.Core.List.{List}
 use Prim.Native.Nat.{ℕ, ◌+◌, ◌<◌}
 use native.Mathlib.Omega.{arith}
 use borrow.Author.Count.{below_none, below_more}
-use borrow.Author.Tests.{not-true, not-false}
+use Rattle.std.specs.Prelude.{Result, Ok, Err}
 use lib.Dec.{T, eqb, eqb→eq}
 use lib.ListN.{length}
 use Rattle.rules.specs.Relations.{has, ◌lies_within◌, converse}
@@ -23,6 +23,7 @@ use Rattle.kinds.specs.Sections.{WithKinds}
 use Rattle.bits.specs.Sets.{removed}
 use Rattle.bits.proofs.Laws.{has_zero, has_removed, removed_less}
 use Rattle.by_board.specs.Found.{Listed}
+use Rattle.moves.specs.declared.Emptied.{Emptied}
 use Rattle.moves.specs.Moves.{Mirrored, Mutual, Moved, Lost, Went}
 use Rattle.moves.specs.Visits.{Site, Visited}
 use Rattle.moves.proofs.Moving.{moved_none, moved_then, moved_as, lost_then, lost_as}
@@ -43,15 +44,15 @@ pub board_few : {v : ℕ} {t : List ℕ} {a : ℕ} → Mutual v t → a < v → 
 board_few u h = omega (arith, u.ready.boards)
 
 -- work that keeps more than is asked, and work that sees to something else as well
-pub went_as : (C D : List ℕ → Type 0) (v : ℕ) (P : List ℕ → List ℕ → Type 0) (t m w n : List ℕ) (some : Bool) → ((x : List ℕ) → D x → C x)
-    → Went C v P t m w n some → Went D v P t m w n some
-went_as C D v P t m w n true f (moved, seen) = (moved_as f moved, seen)
-went_as C D v P t m w n false f lost = lost_as f lost
+pub went_as : (C D : List ℕ → Type 0) (v : ℕ) (P : List ℕ → List ℕ → Type 0) (t m w n : List ℕ) (r : Result (Unit {0}) Emptied) → ((x : List ℕ) → D x → C x)
+    → Went C v P t m w n r → Went D v P t m w n r
+went_as C D v P t m w n (Ok _) f (moved, seen) = (moved_as f moved, seen)
+went_as C D v P t m w n (Err _) f lost = lost_as f lost
 
-pub went_so : (C : List ℕ → Type 0) (v : ℕ) (P Q : List ℕ → List ℕ → Type 0) (t m w n : List ℕ) (some : Bool) → (Moved C v t m w n → P n w → Q n w)
-    → Went C v P t m w n some → Went C v Q t m w n some
-went_so C v P Q t m w n true f (moved, seen) = (moved, f moved seen)
-went_so C v P Q t m w n false f lost = lost
+pub went_so : (C : List ℕ → Type 0) (v : ℕ) (P Q : List ℕ → List ℕ → Type 0) (t m w n : List ℕ) (r : Result (Unit {0}) Emptied) → (Moved C v t m w n → P n w → Q n w)
+    → Went C v P t m w n r → Went C v Q t m w n r
+went_so C v P Q t m w n (Ok _) f (moved, seen) = (moved, f moved seen)
+went_so C v P Q t m w n (Err _) f lost = lost
 
 -- P stays as table and list move
 abbrev pub Steady : ℕ → (List ℕ → List ℕ → Type 0) → Type 1
@@ -86,32 +87,28 @@ module _ {C : List KindLine → List ℕ → Type 0} {v count : ℕ} {ws xs : Li
   going_none : {t m : List ℕ} → Site v count ws xs t m → Going C v count ws xs t m t m
   going_none s = record { site = s; gone = λ ks fill. moved_none s.table s.list; long = refl; words = refl }
 
-  module _ {t m u k : List ℕ} (g : Going C v count ws xs t m u k) (P : List ℕ → List ℕ → Type 0) (w n : List ℕ) (some : Bool)
-      (h : Visited C v count ws (λ ks. P) u k w n some) where
-    going_lost : not some ≡ true → WithKinds v count ws (λ ks. Lost (C ks) v t)
-    going_lost e ks fill = lost_then (g.gone ks fill) (subst (Went (C ks) v P u k w n) (not-true some e) (h ks fill))
+  module _ {t m u k : List ℕ} (g : Going C v count ws xs t m u k) (P : List ℕ → List ℕ → Type 0) (w n : List ℕ) where
+    going_lost : {d : Emptied} → Visited C v count ws (λ ks. P) u k w n (Err d) → WithKinds v count ws (λ ks. Lost (C ks) v t)
+    going_lost h ks fill = lost_then (g.gone ks fill) (h ks fill)
 
-    module _ (e : not some ≡ false) where
-      going_on : WithKinds v count ws (λ ks. Moved (C ks) v u k w n × P n w)
-      going_on ks fill = subst (Went (C ks) v P u k w n) (not-false some e) (h ks fill)
-
+    module _ {d : Unit {0}} (h : Visited C v count ws (λ ks. P) u k w n (Ok d)) where
       going_next : Going C v count ws xs t m w n
       going_next =
           let (ks, fill) = g.site.listed.lines.0 in
-          let moved = (going_on ks fill).0 in
+          let moved = (h ks fill).0 in
           record {
             site = moved_site g.site.listed moved;
-            gone = λ ks fill. moved_then (g.gone ks fill) (going_on ks fill).0;
+            gone = λ ks fill. moved_then (g.gone ks fill) (h ks fill).0;
             long = moved.inside.cells ∙ g.long;
             words = moved.list.words ∙ sym g.site.list.words ∙ g.words;
           }
 
       -- what is seen to, and what stays so
       going_seen : P n w
-      going_seen = let (ks, fill) = g.site.listed.lines.0 in (going_on ks fill).1
+      going_seen = let (ks, fill) = g.site.listed.lines.0 in (h ks fill).1
 
       going_stays : {R : List ℕ → List ℕ → Type 0} → Steady v R → R k u → R n w
-      going_stays steady r = let (ks, fill) = g.site.listed.lines.0 in steady (C ks) u k w n (going_on ks fill).0 r
+      going_stays steady r = let (ks, fill) = g.site.listed.lines.0 in steady (C ks) u k w n (h ks fill).0 r
 
   module _ {Q : ℕ → List ℕ → List ℕ → Type 0} where
     -- ---- to the numbers below a number
@@ -119,17 +116,16 @@ module _ {C : List KindLine → List ℕ → Type 0} {v count : ℕ} {ws xs : Li
     pub counting_none : {t m : List ℕ} → Site v count ws xs t m → Counting C v count ws xs Q 0 t m t m
     counting_none s = record { going = going_none s; done = below_none _ }
 
-    module _ {i : ℕ} {t m u k : List ℕ} (p : Counting C v count ws xs Q i t m u k) (w n : List ℕ) (some : Bool)
-        (h : Visited C v count ws (λ ks. Q i) u k w n some) where
-      pub counting_lost : not some ≡ true → WithKinds v count ws (λ ks. Lost (C ks) v t)
-      counting_lost e = going_lost p.going (Q i) w n some h e
+    module _ {i : ℕ} {t m u k : List ℕ} (p : Counting C v count ws xs Q i t m u k) (w n : List ℕ) where
+      pub counting_lost : {d : Emptied} → Visited C v count ws (λ ks. Q i) u k w n (Err d) → WithKinds v count ws (λ ks. Lost (C ks) v t)
+      counting_lost = going_lost p.going (Q i) w n
 
-      pub counting_next : ((j : ℕ) → Steady v (Q j)) → not some ≡ false → Counting C v count ws xs Q (i + 1) t m w n
-      counting_next steady e =
+      pub counting_next : {d : Unit {0}} → Visited C v count ws (λ ks. Q i) u k w n (Ok d) → ((j : ℕ) → Steady v (Q j))
+          → Counting C v count ws xs Q (i + 1) t m w n
+      counting_next h steady =
           record {
-            going = going_next p.going (Q i) w n some h e;
-            done =
-                below_more _ _ (λ j l. going_stays p.going (Q i) w n some h e (steady j) (p.done j l)) (going_seen p.going (Q i) w n some h e);
+            going = going_next p.going (Q i) w n h;
+            done = below_more _ _ (λ j l. going_stays p.going (Q i) w n h (steady j) (p.done j l)) (going_seen p.going (Q i) w n h);
           }
 
     -- ---- to the numbers of a set
@@ -147,24 +143,24 @@ module _ {C : List KindLine → List ℕ → Type 0} {v count : ℕ} {ws xs : Li
       pub passing_less : (i : ℕ) → T (has left i) → {rest : ℕ} → rest ≡ removed left i → rest < left
       passing_less i here e = subst (λ (x : ℕ). x < left) (sym e) (removed_less left i here)
 
-      module _ (i : ℕ) (w n : List ℕ) (some : Bool) (h : Visited C v count ws (λ ks. Q i) u k w n some) where
-        pub passing_lost : not some ≡ true → WithKinds v count ws (λ ks. Lost (C ks) v t)
-        passing_lost e = going_lost p.going (Q i) w n some h e
+      module _ (i : ℕ) (w n : List ℕ) where
+        pub passing_lost : {d : Emptied} → Visited C v count ws (λ ks. Q i) u k w n (Err d) → WithKinds v count ws (λ ks. Lost (C ks) v t)
+        passing_lost = going_lost p.going (Q i) w n
 
-        pub passing_next : T (has left i) → {rest : ℕ} → rest ≡ removed left i → ((j : ℕ) → Steady v (Q j)) → not some ≡ false
-            → Passing C v count ws xs Q all rest t m w n
-        passing_next here {rest} r steady e =
+        pub passing_next : {d : Unit {0}} → Visited C v count ws (λ ks. Q i) u k w n (Ok d) → T (has left i) → {rest : ℕ} → rest ≡ removed left i
+            → ((j : ℕ) → Steady v (Q j)) → Passing C v count ws xs Q all rest t m w n
+        passing_next h here {rest} r steady =
             subst (λ (y : ℕ). Passing C v count ws xs Q all y t m w n) (sym r)
             (record {
-              going = going_next p.going (Q i) w n some h e;
+              going = going_next p.going (Q i) w n h;
               among = λ j a. p.among j (T-and_left (has left j) (not (eqb i j)) (subst T (has_removed left i j here) a));
               done =
                   λ j a.
                   ⊎_elim
                   (λ b.
-                  ⊎_elim (λ d. inr (subst (λ (j : ℕ). Q j n w) (eqb→eq i j d) (going_seen p.going (Q i) w n some h e)))
+                  ⊎_elim (λ d. inr (subst (λ (j : ℕ). Q j n w) (eqb→eq i j d) (going_seen p.going (Q i) w n h)))
                   (λ d. inl (subst T (sym (has_removed left i j here)) (and_T (has left j) (not (eqb i j)) b d))) (T-decide (eqb i j)))
-                  (λ q. inr (going_stays p.going (Q i) w n some h e (steady j) q)) (p.done j a);
+                  (λ q. inr (going_stays p.going (Q i) w n h (steady j) q)) (p.done j a);
             })
 
       pub passing_end : left ≡ 0 → (i : ℕ) → T (has all i) → Q i k u

@@ -1,20 +1,23 @@
 -- A pair that is put: both cells, the list and what is told, where that changes something and where not. Assumes nothing.
-use mathlib.Core.Path.{◌≡◌, sym, ap, ap₂, ◌∙◌, subst}
-use mathlib.Core.Bool.{Bool, true, false, not}
+use mathlib.Core.Path.{◌≡◌, refl, sym, ap, ap₂, ◌∙◌, subst}
+use mathlib.Core.Bool.{Bool, true, false}
 use mathlib.Core.List.{List}
 use Prim.Native.Nat.{ℕ, ◌+◌, ◌*◌, ◌<◌}
 use borrow.Author.Tests.{eq-eqb, ne_eqb}
-use lib.Dec.{T, eqb, eqb→eq, T_not}
+use lib.Dec.{T, eqb, T_not}
 use lib.ListN.{length, set, length-set}
 use lib.Seq.{get_or-set_same, get_or-set_other, set-get_or}
 use Rattle.rules.specs.Relations.{◌lies_within◌, converse}
 use Rattle.rules.specs.Tables.{cell, Table, emptied}
-use Rattle.rules.proofs.Tests.{T_not-not}
+use Rattle.std.specs.Prelude.{Result, Ok, Err}
+use Rattle.std.proofs.lemmas.Bool.{eqb-true}
+use Rattle.rules.proofs.Tests.{clash}
 use Rattle.rules.proofs.Sets.{lies_zero}
 use Rattle.rules.proofs.Inside.{in_range_lem, emptied_in}
 use Rattle.passes.specs.Passes.{Ready}
 use Rattle.passes.proofs.Passes.{ready_place}
-use Rattle.moves.specs.Moves.{Mutual, written_both, noted, PairPut, kept_of, Struck}
+use Rattle.moves.specs.declared.Emptied.{Emptied}
+use Rattle.moves.specs.Moves.{told_of, Mutual, written_both, noted, PairPut, kept_of, Struck}
 
 -- no cell of the table is empty
 pub cell_some : {v : ℕ} {t : List ℕ} {p q : ℕ} → Mutual v t → p < v → q < v → cell v t p q ≡ 0 → ⊥
@@ -45,32 +48,41 @@ pub written_back : (v p q : ℕ) {x : ℕ} (t : List ℕ) → cell v t p q ≡ x
 written_back v p q t e f =
     ap₂ (λ (u : List ℕ) (y : ℕ). set u (v * q + p) y) (ap (λ (y : ℕ). set t (v * p + q) y) (sym e) ∙ set-get_or t (v * p + q) 0) (sym f) ∙ set-get_or t (v * q + p) 0
 
+-- what was told of an empty set, and of one that is not
+told_some : (b : Bool) → Ok tt ≡ told_of b → b ≡ true → ⊥
+told_some true e f = clash (cc)
+told_some false e f = clash (cc)
+
+told_none : {d : Emptied} (b : Bool) → Err d ≡ told_of b → b ≡ true
+told_none true e = refl
+told_none false e = clash (cc)
+
 module _ {v p q x : ℕ} {t m : List ℕ} {idle : Bool} where
   -- what need not be put
-  pub put_idle : cell v t p q ≡ x → cell v t q p ≡ converse x → (x ≡ 0 → ⊥) → idle ≡ true → PairPut idle v p q x t m t m true
+  pub put_idle : cell v t p q ≡ x → cell v t q p ≡ converse x → (x ≡ 0 → ⊥) → idle ≡ true → PairPut idle v p q x t m t m (Ok tt)
   put_idle e f some i =
       record {
         cells = sym (written_back v p q t e f);
         list = sym (ap (λ (z : Bool). noted z m p q) i);
-        told = sym (ap not (ne_eqb _ _ some));
+        told = sym (ap told_of (ne_eqb _ _ some));
       }
 
   -- what was put, of a pair that is not idle
-  pub put_so : {is : ℕ} {w n : List ℕ} {some : Bool} → is ≡ x → idle ≡ false → PairPut false v p q is t m w n some → PairPut idle v p q x t m w n some
-  put_so {is} {w} {n} {some} e i s =
-      subst (λ (z : Bool). PairPut z v p q x t m w n some) (sym i) (subst (λ (y : ℕ). PairPut false v p q y t m w n some) e s)
+  pub put_so : {is : ℕ} {w n : List ℕ} {r : Result (Unit {0}) Emptied} → is ≡ x → idle ≡ false → PairPut false v p q is t m w n r → PairPut idle v p q x t m w n r
+  put_so {is} {w} {n} {r} e i s =
+      subst (λ (z : Bool). PairPut z v p q x t m w n r) (sym i) (subst (λ (y : ℕ). PairPut false v p q y t m w n r) e s)
 
   -- what was told
-  pub put_some : {w n : List ℕ} → PairPut idle v p q x t m w n true → x ≡ 0 → ⊥
-  put_some s e = subst T (s.told ∙ ap (λ (y : ℕ). not (eqb y 0)) e) tt
+  pub put_some : {w n : List ℕ} → PairPut idle v p q x t m w n (Ok tt) → x ≡ 0 → ⊥
+  put_some s e = told_some (eqb x 0) s.told (eq-eqb x 0 e)
 
-  pub put_lost : {w n y : List ℕ} → PairPut idle v p q x t m w n false → p < v → q < v → Table v y → cell v y p q lies_within x → T (emptied y)
+  pub put_lost : {w n y : List ℕ} {d : Emptied} → PairPut idle v p q x t m w n (Err d) → p < v → q < v → Table v y → cell v y p q lies_within x → T (emptied y)
   put_lost {y = y} s hp hq h f =
-      let none : x ≡ 0 = eqb→eq x 0 (T_not-not (eqb x 0) (λ e. subst T (sym s.told) e)) in
+      let none : x ≡ 0 = eqb-true x 0 (told_none (eqb x 0) s.told) in
       within_none h hp hq (subst (λ (z : ℕ). cell v y p q lies_within z) none f)
 
 -- a strike that changes nothing
-pub struck_not : {v p q is : ℕ} (b : ℕ) {t m : List ℕ} → Mutual v t → p < v → q < v → is ≡ kept_of v t p q b → is ≡ cell v t p q → Struck v p q b t m t m true
+pub struck_not : {v p q is : ℕ} (b : ℕ) {t m : List ℕ} → Mutual v t → p < v → q < v → is ≡ kept_of v t p q b → is ≡ cell v t p q → Struck v p q b t m t m (Ok tt)
 struck_not {v} {p} {q} b {t} u hp hq e f =
     let c : kept_of v t p q b ≡ cell v t p q = sym e ∙ f in
     put_idle (sym c) (u.mirrored p q hp hq ∙ ap converse (sym c)) (λ z. cell_some u hp hq (sym c ∙ z)) (eq-eqb _ _ c)

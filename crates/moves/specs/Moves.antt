@@ -1,5 +1,5 @@
 -- The list of pairs of boards that lost something, and what work that keeps it makes of a table. Assumes nothing.
-use Rattle.std.specs.Prelude.{◌≡◌, Bool, true, false, not, ◌||◌, ℕ, ◌+◌, ◌*◌, ◌^◌, ◌≤◌, ◌<◌, T, Option, Some, None, nat_eq, length, slice_index, set}
+use Rattle.std.specs.Prelude.{◌≡◌, Bool, true, false, not, ◌||◌, ℕ, ◌+◌, ◌*◌, ◌^◌, ◌≤◌, ◌<◌, T, Option, Some, None, Result, Ok, Err, nat_eq, length, slice_index, set}
 use mathlib.Core.List.{List, [], ◌∷◌, Memᴰ}
 use Rattle.std.specs.Int.Count.{ones}
 use Rattle.rules.specs.Relations.{E, has, meet, converse}
@@ -9,6 +9,7 @@ use Rattle.rules.specs.Arrangements.{width}
 use Rattle.rules.specs.Closing.{Idle, agree}
 use Rattle.passes.specs.Passes.{Filled, Ready}
 use Rattle.bits.specs.Sets.{added_at, removed, lowest}
+use Rattle.moves.specs.declared.Emptied.{Emptied}
 use Rattle.moves.specs.Watches.{Watch, through, feeds, feeds', apart, matches, matches'}
 
 -- The list has a word for each board, with a bit for each other board.
@@ -62,20 +63,29 @@ abbrev pub noted : Bool → List ℕ → ℕ → ℕ → List ℕ
 noted true m p q = m
 noted false m p q = added_at m p q
 
+-- that a cell is empty
+abbrev pub emptied_cell : Emptied
+emptied_cell = record {}
+
+-- what is told of a set that was written, by whether it is empty
+abbrev pub told_of : Bool → Result (Unit {0}) Emptied
+told_of true = Err emptied_cell
+told_of false = Ok tt
+
 -- Table and list went from t and m to w and n: x stands in (p, q) and turned in (q, p), the pair is on the list unless that is idle, and it was told whether x
--- has a relation.
-pub record PairPut (idle : Bool) (v p q x : ℕ) (t m w n : List ℕ) (some : Bool) : Type 0 where
+-- is empty.
+pub record PairPut (idle : Bool) (v p q x : ℕ) (t m w n : List ℕ) (r : Result (Unit {0}) Emptied) : Type 0 where
   pub cells : w ≡ written_both v t p q x
   pub list : n ≡ noted idle m p q
-  pub told : some ≡ not (nat_eq x 0)
+  pub told : r ≡ told_of (nat_eq x 0)
 
 -- what a cell keeps of a set
 abbrev pub kept_of : ℕ → List ℕ → ℕ → ℕ → ℕ → ℕ
 kept_of v t p q b = meet (cell v t p q) b
 
--- A strike at (p, q) by the set b took table and list from t and m to w and n, and says whether the cell still has a relation. It is idle where the cell keeps all.
-abbrev pub Struck : ℕ → ℕ → ℕ → ℕ → List ℕ → List ℕ → List ℕ → List ℕ → Bool → Type 0
-Struck v p q b t m w n some = PairPut (nat_eq (kept_of v t p q b) (cell v t p q)) v p q (kept_of v t p q b) t m w n some
+-- A strike at (p, q) by the set b took table and list from t and m to w and n, and tells whether the cell is empty. It is idle where the cell keeps all.
+abbrev pub Struck : ℕ → ℕ → ℕ → ℕ → List ℕ → List ℕ → List ℕ → List ℕ → Result (Unit {0}) Emptied → Type 0
+Struck v p q b t m w n r = PairPut (nat_eq (kept_of v t p q b) (cell v t p q)) v p q (kept_of v t p q b) t m w n r
 
 -- Work took table and list from t and m to w and n: no table inside t of which C holds is lost, each pair that is not on the list was not on it and has kept
 -- its cell, and each mark that came cost a relation.
@@ -95,10 +105,10 @@ Tended v m t x = ((a b : ℕ) → x.Reads a b → Off v m a b) → Idle v t x.ru
 abbrev pub Lost : (List ℕ → Type 0) → ℕ → List ℕ → Type 0
 Lost C v t = (x : List ℕ) → Table v x → C x → Inside x t → T (emptied x)
 
--- Work that says whether it goes on: table and list have moved, and P holds of them; or an empty cell was met.
-abbrev pub Went : (List ℕ → Type 0) → ℕ → (List ℕ → List ℕ → Type 0) → List ℕ → List ℕ → List ℕ → List ℕ → Bool → Type 0
-Went C v P t m w n true = Moved C v t m w n × P n w
-Went C v P t m w n false = Lost C v t
+-- Work that tells whether it was left at an empty cell: if not, table and list have moved, and P holds of them.
+abbrev pub Went : (List ℕ → Type 0) → ℕ → (List ℕ → List ℕ → Type 0) → List ℕ → List ℕ → List ℕ → List ℕ → Result (Unit {0}) Emptied → Type 0
+Went C v P t m w n (Ok _) = Moved C v t m w n × P n w
+Went C v P t m w n (Err _) = Lost C v t
 
 -- what a visit to rule 6 of a kind line towards z, and to rule 7 of two kind lines, sees to
 pub record Fed (v : ℕ) (k : KindLine) (z : ℕ) (m t : List ℕ) : Type 0 where

@@ -1,10 +1,11 @@
 -- Visits to the rules of kind lines: what they are given, what is to be kept, and what they see to. Assumes nothing.
-use Rattle.std.specs.Prelude.{Bool, List, ◌++◌, ℕ}
+use Rattle.std.specs.Prelude.{Result, List, ◌++◌, ℕ}
 use Rattle.rules.specs.Descriptions.{KindLine}
 use Rattle.rules.specs.Closing.{Rule, rules2}
 use Rattle.passes.specs.Passes.{Idles}
 use Rattle.kinds.specs.Sections.{WithKinds}
 use Rattle.by_board.specs.Found.{Listed}
+use Rattle.moves.specs.declared.Emptied.{Emptied}
 use Rattle.moves.specs.Moves.{Marks, Mutual, Went}
 
 -- a table with its list of pairs, and the kind lines with their index
@@ -17,7 +18,7 @@ pub record Site (v count : ℕ) (ws xs t m : List ℕ) : Type 0 where
 abbrev pub Keeping : (ℕ → List KindLine → List Rule) → ℕ → List KindLine → List ℕ → Type 0
 Keeping rules v ks = Idles v (rules2 v ++ rules v ks)
 
--- Work that says whether it goes on, and loses no table of which C of the kind lines in the words holds; P of these lines holds of what it makes.
+-- Work that tells whether it was left at an empty cell, and loses no table of which C of the kind lines in the words holds; P of these lines holds of what it makes.
 abbrev pub Visited : (List KindLine → List ℕ → Type 0) → ℕ → ℕ → List ℕ → (List KindLine → List ℕ → List ℕ → Type 0)
-    → List ℕ → List ℕ → List ℕ → List ℕ → Bool → Type 0
-Visited C v count ws P t m w n some = WithKinds v count ws (λ ks. Went (C ks) v (P ks) t m w n some)
+    → List ℕ → List ℕ → List ℕ → List ℕ → Result (Unit {0}) Emptied → Type 0
+Visited C v count ws P t m w n r = WithKinds v count ws (λ ks. Went (C ks) v (P ks) t m w n r)

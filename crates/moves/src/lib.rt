@@ -3,12 +3,16 @@
 
 ghost use Rattle.std.specs.Prelude.{◌≡◌, false, ◌<◌, ◌≤◌, length, replicate};
 ghost use Rattle.rules.specs.Descriptions.{most_boards};
-ghost use Rattle.rules.specs.Relations.{set_limit};
 ghost use Rattle.passes.specs.Passes.{Ready};
 ghost use Rattle.moves.specs.Moves.{Marks, Mutual, PairTaken, PairPut, Struck};
 
 use answers::limits::MOST_BOARDS;
 use bits::NumberSet;
+use relations::RelationSet;
+
+// A cell is empty, so nothing fits: work that tells of it was left there.
+#[derive(Clone, Copy, Debug, PartialEq, Eq)]
+pub struct Emptied;
 
 // Room for a list, with nothing on it.
 pub fn marks_room() -> [NumberSet; MOST_BOARDS]
@@ -37,46 +41,47 @@ pub fn take_pair(v: usize, marks: &mut [NumberSet]) -> Option<(usize, usize)>
     None
 }
 
-// Writes a set to the cell of two boards, and its converse to the cell of the same two seen from the other side. The pair is put on the list. Says whether the
-// set has a relation.
+// Writes a set to the cell of two boards, and its converse to the cell of the same two seen from the other side. The pair is put on the list. Tells whether the
+// cell is empty then.
 pub fn put_pair(
     v: usize,
     p: usize,
     q: usize,
-    is: u8,
-    cells: &mut [u8],
+    is: RelationSet,
+    cells: &mut [RelationSet],
     marks: &mut [NumberSet],
-) -> bool
-    requires { Ready v cells.old × Marks v marks.old × (p < v) × (q < v) × (is < set_limit) }
+) -> Result<(), Emptied>
+    requires { Ready v cells.old × Marks v marks.old × (p < v) × (q < v) }
     ensures { PairPut false v p q is cells.old marks.old cells.new marks.new result }
 {
-    let entries = relations::converse_table();
     let k = v * p + q;
     let l = v * q + p;
     cells[k] = is;
-    cells[l] = relations::converse(&entries, is);
+    cells[l] = is.converse();
     marks[p].insert(q);
-    is != 0
+    if is.is_empty() {
+        return Err(Emptied);
+    }
+    Ok(())
 }
 
 // Narrows the cell of two boards to what the bound has too, and the cell of the same two seen from the other side alike. If that strikes anything, the pair
-// is put on the list. Says whether the cell still has a relation.
+// is put on the list. Tells whether the cell is empty then.
 pub fn strike(
     v: usize,
     p: usize,
     q: usize,
-    bound: u8,
-    cells: &mut [u8],
+    bound: RelationSet,
+    cells: &mut [RelationSet],
     marks: &mut [NumberSet],
-) -> bool
-    requires { Mutual v cells.old × Marks v marks.old × (p < v) × (q < v) × (bound < set_limit) }
+) -> Result<(), Emptied>
+    requires { Mutual v cells.old × Marks v marks.old × (p < v) × (q < v) }
     ensures { Struck v p q bound cells.old marks.old cells.new marks.new result }
 {
-    let k = v * p + q;
-    let was = cells[k];
-    let is = relations::meet(was, bound);
+    let was = tables::cell(v, p, q, cells);
+    let is = was & bound;
     if is == was {
-        return true;
+        return Ok(());
     }
     put_pair(v, p, q, is, cells, marks)
 }

@@ -7,6 +7,8 @@ use Rattle.tables.proofs.write_cells.Kinds as write_cells_kinds
 use Rattle.tables.proofs.write_cells.Reads as write_cells
 use Rattle.tables.proofs.as_asked.Kinds as as_asked_kinds
 use Rattle.tables.proofs.as_asked.Reads as as-asked
+use Rattle.tables.proofs.cell.Kinds as cell_kinds
+use Rattle.tables.proofs.cell.Reads as cell
 use Rattle.tables.proofs.narrow.Kinds as narrow_kinds
 use Rattle.tables.proofs.narrow.Reads as narrow
 use Rattle.tables.proofs.members.Kinds as members_kinds
@@ -20,6 +22,9 @@ write_cells_determined κs a asked x y d e p q = (refl, p ∙ sym q)
 
 pub as_asked_determined : OneResult 1 as_asked_kinds.ps as_asked_kinds.r as-asked.Asked as-asked.Learnt
 as_asked_determined κs a asked x y d e p q = p ∙ sym q
+
+pub cell_determined : OneResult 1 cell_kinds.ps cell_kinds.r cell.Asked cell.Learnt
+cell_determined κs a asked x y d e p q = p ∙ sym q
 
 pub narrow_determined : OneOutcome 1 narrow_kinds.ps narrow_kinds.r narrow.Asked narrow.Learnt (λ κs e. e.0.now)
 narrow_determined κs a asked x y d e p q = (p.struck ∙ sym q.struck, p.cells ∙ sym q.cells)

@@ -4,8 +4,8 @@
 ghost use Rattle.std.specs.Prelude.{◌≡◌, ℕ, ◌≤◌, ◌<◌, length, slice_index, nat_lt};
 ghost use Rattle.rules.specs.Relations.{each_of, set_limit};
 ghost use Rattle.rules.specs.Descriptions.{most_boards, most_cells};
-ghost use Rattle.rules.specs.Tables.{total};
-ghost use Rattle.passes.specs.Passes.{Narrowed};
+ghost use Rattle.rules.specs.Tables.{cell, total};
+ghost use Rattle.passes.specs.Passes.{Ready, Narrowed};
 ghost use Rattle.tables.specs.Asks.{asks};
 
 use relations::{RelationSet, SETS};
@@ -60,6 +60,14 @@ pub fn as_asked(v: usize, table: &[u8], asked: Asked) -> bool
         Asked::Cells => true,
         Asked::Sets => sets_only(table),
     }
+}
+
+// The cell of two boards.
+pub fn cell(v: usize, p: usize, q: usize, cells: &[RelationSet]) -> RelationSet
+    requires { Ready v cells.now × (p < v) × (q < v) }
+    ensures { result ≡ cell v cells.now p q }
+{
+    cells[v * p + q]
 }
 
 // Narrows one cell to what the bound has too, and says how many relations that struck.

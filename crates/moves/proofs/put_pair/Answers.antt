@@ -1,7 +1,8 @@
 -- `put_pair` meets its contract: it writes two cells and one mark. Assumes nothing.
-use mathlib.Core.Path.{refl}
+use mathlib.Core.Path.{sym, ap, ◌∙◌}
 use native.Mathlib.Omega.{arith}
 use Rattle.passes.proofs.Passes.{place_few, ready_place}
+use Rattle.moves.specs.Moves.{told_of}
 use Rattle.moves.proofs.Striking.{place_after}
 use Rattle.moves.proofs.Taking.{pair_put}
 use Rattle.moves.proofs.put_pair.Goals as goal
@@ -28,4 +29,17 @@ bounds-cells-l c =
 pub returns : goal.returns
 returns c =
     let pre = c.requires in
-    record { cells = rw c.converse.ensures; list = pair_put c.args.v c.args.marks.now pre.0.boards pre.1 c.args.p pre.2 _ c.args.q _ c.insert.ensures; told = refl }
+    record {
+      cells = rw c.converse.ensures;
+      list = pair_put c.args.v c.args.marks.now pre.0.boards pre.1 c.args.p pre.2 _ c.args.q _ c.insert.ensures;
+      told = ap told_of (sym c.if-is_empty.false ∙ c.is_empty.ensures);
+    }
+
+pub returns-then-is_empty : goal.returns-then-is_empty
+returns-then-is_empty c =
+    let pre = c.requires in
+    record {
+      cells = rw c.converse.ensures;
+      list = pair_put c.args.v c.args.marks.now pre.0.boards pre.1 c.args.p pre.2 _ c.args.q _ c.insert.ensures;
+      told = ap told_of (sym c.if-is_empty.true ∙ c.is_empty.ensures);
+    }

@@ -8,13 +8,14 @@ use Prim.Native.Nat.{ℕ, ◌+◌, ◌<◌}
 use native.Mathlib.Omega.{arith}
 use borrow.Author.Count.{below_none, below_more}
 use Rattle.std.specs.Prelude.{Result, Ok, Err}
+use Rattle.std.specs.Result.{IsErr}
 use lib.Dec.{T, eqb, eqb→eq}
 use lib.ListN.{length}
 use Rattle.rules.specs.Relations.{has, ◌lies_within◌, converse}
 use Rattle.rules.specs.Descriptions.{most_boards, KindLine}
 use Rattle.rules.specs.Tables.{cell}
 use Rattle.rules.specs.Closing.{Idle, rules2}
-use Rattle.rules.proofs.Tests.{and_T, T-and_left, T-decide}
+use Rattle.rules.proofs.Tests.{clash, and_T, T-and_left, T-decide}
 use Rattle.rules.proofs.Sets.{lies_eq}
 use Rattle.rules.proofs.Members.{all_one, one_all}
 use Rattle.rules.proofs.Rules.{all_boards, boards_all}
@@ -53,6 +54,12 @@ pub went_so : (C : List ℕ → Type 0) (v : ℕ) (P Q : List ℕ → List ℕ �
     → Went C v P t m w n r → Went C v Q t m w n r
 went_so C v P Q t m w n (Ok _) f (moved, seen) = (moved, f moved seen)
 went_so C v P Q t m w n (Err _) f lost = lost
+
+-- work that was left at an empty cell, as a `?` hands that on
+pub went_err : (C : List ℕ → Type 0) (v : ℕ) (P : List ℕ → List ℕ → Type 0) (t m w n : List ℕ) (r : Result (Unit {0}) Emptied) → IsErr r → Lost C v t
+    → Went C v P t m w n r
+went_err C v P t m w n (Ok _) e lost = clash (cc)
+went_err C v P t m w n (Err _) e lost = lost
 
 -- P stays as table and list move
 abbrev pub Steady : ℕ → (List ℕ → List ℕ → Type 0) → Type 1

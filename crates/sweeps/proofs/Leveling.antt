@@ -1,6 +1,7 @@
 -- Rule 2 of two boards, of a board and those after it, and of all: one pair after the other, and what is left. Assumes nothing.
 use mathlib.Core.Path.{◌≡◌, refl, sym, ap, ◌∙◌, subst}
-use mathlib.Core.Bool.{Bool, true, false, not}
+use mathlib.Core.Bool.{Bool, true, false}
+use Rattle.std.specs.Prelude.{Result, Ok, Err, IsErr}
 use mathlib.Core.Logic.{⊎_elim, ◌⊎◌}
 use mathlib.Core.List.{List}
 use Prim.Native.Nat.{ℕ, ◌+◌, ◌*◌, ◌<◌}
@@ -11,19 +12,20 @@ use lib.ListN.{length, get_or}
 use Rattle.rules.specs.Relations.{relations, E, same, has, set_to, set_of, full, set_limit, ◌lies_within◌, converse}
 use Rattle.rules.specs.Tables.{cell, Inside, emptied}
 use Rattle.rules.specs.Closing.{rules2}
-use Rattle.rules.proofs.Tests.{order_cases}
+use Rattle.rules.proofs.Tests.{clash, order_cases}
 use Rattle.rules.proofs.Digits.{has_zero, has_single}
 use Rattle.rules.proofs.Sets.{set_of_small, lies_trans, lies_antisym, lies_full, lies_one, meet_left, meet_right, meet_largest}
 use Rattle.rules.proofs.Composition.{converse_small, converse_mono, converse_converse, converse_zero}
 use Rattle.rules.proofs.Rules.{same_small}
 use Rattle.rules.proofs.Inside.{each_place, inside_refl, inside_trans, emptied_out}
 use Rattle.passes.specs.Passes.{Filled, Idles, Ready}
-use Rattle.moves.specs.Moves.{Marks, Off, Mirrored, written_both, noted, Lost}
+use Rattle.moves.specs.declared.Emptied.{Emptied}
+use Rattle.moves.specs.Moves.{told_of, Marks, Off, Mirrored, written_both, noted, Lost}
 use Rattle.moves.proofs.Striking.{within_none, written_here, written_there, put_idle, put_some, put_lost}
 use Rattle.moves.proofs.Reading.{is_told}
 use Rattle.moves.proofs.Passing.{turned}
 use Rattle.moves.proofs.Moving.{place_one, turned_E, both_inside, both_table, both_keeps, both_other, noted_list, noted_off, noted_here, off_mirror, off_both}
-use Rattle.sweeps.specs.Sweeps.{Selves, allowed, Level, Sided, Sides, Noted}
+use Rattle.sweeps.specs.Sweeps.{Selves, allowed, Level, Levels, Leveled, Sided, Sides, Noted}
 
 full_small : full < set_limit
 unfolding full
@@ -46,7 +48,7 @@ all_full : {x : ℕ} → x < set_limit → full lies_within x → x ≡ full
 all_full {x} h f = lies_antisym h full_small (lies_full x) f
 
 -- two boards of which all is allowed
-pub level_not : {v p q is : ℕ} {t m : List ℕ} → Ready v t → is ≡ allowed v t p q → is ≡ full → Level v p q t m t m true
+pub level_not : {v p q is : ℕ} {t m : List ℕ} → Ready v t → is ≡ allowed v t p q → is ≡ full → Level v p q t m t m (Ok tt)
 level_not {v} {p} {q} {is} {t} r e f =
     let c : allowed v t p q ≡ full = sym e ∙ f in
     let here : cell v t p q ≡ full =
@@ -64,8 +66,8 @@ full_cells v p q t r e = (level_not {m = t} r refl (e ∙ sym full_is)).cells
 pub full_list : (x p q : ℕ) (m : List ℕ) → x ≡ 15 → m ≡ noted (eqb x full) m p q
 full_list x p q m e = subst (λ (b : Bool). m ≡ noted b m p q) (sym (eq-eqb _ _ (e ∙ sym full_is))) refl
 
-pub full_told : (x : ℕ) → x ≡ 15 → true ≡ not (eqb x 0)
-full_told x e = subst (λ (x : ℕ). true ≡ not (eqb x 0)) (sym e) refl
+pub full_told : (x : ℕ) → x ≡ 15 → Ok tt ≡ told_of (eqb x 0)
+full_told x e = subst (λ (x : ℕ). Ok tt ≡ told_of (eqb x 0)) (sym e) refl
 
 -- ---- one pair
 
@@ -101,10 +103,10 @@ module _ (v p q : ℕ) (t : List ℕ) (r : Ready v t) (less : p < q) (hq : q < v
   within x d i = meet_largest (i.each (v * p + q)) (lies_trans (turned v x d q p hq hp) (converse_mono (i.each (v * q + p))))
 
   module _ {m w n : List ℕ} (l : Marks v m) where
-    pub level_lost : Level v p q t m w n false → Lost (Idles v (rules2 v)) v t
+    pub level_lost : {d : Emptied} → Level v p q t m w n (Err d) → Lost (Idles v (rules2 v)) v t
     level_lost s x h d i = put_lost s hp hq h (within x d i)
 
-    pub level_sides : Level v p q t m w n true → Sides v (λ a b. (a ≡ p) × (b ≡ q)) t m w n
+    pub level_sides : Level v p q t m w n (Ok tt) → Sides v (λ a b. (a ≡ p) × (b ≡ q)) t m w n
     level_sides s =
         subst (λ (y : List ℕ). Sides v (λ a b. (a ≡ p) × (b ≡ q)) t m y n) (sym s.cells)
         (subst (λ (k : List ℕ). Sides v (λ a b. (a ≡ p) × (b ≡ q)) t m after k) (sym s.list) (go (eqb kept full) refl))
@@ -180,6 +182,15 @@ module _ {v : ℕ} where
 
   pub sides_lost : {D : ℕ → ℕ → Type 0} {t m u k : List ℕ} → Sides v D t m u k → Lost (Idles v (rules2 v)) v u → Lost (Idles v (rules2 v)) v t
   sides_lost f g x h d i = g x h d (f.keeps x d i)
+
+  -- an empty cell, as a `?` hands that on
+  pub levels_err : (D : ℕ → ℕ → Type 0) (t m w n : List ℕ) (r : Result (Unit {0}) Emptied) → IsErr r → Lost (Idles v (rules2 v)) v t → Levels v D t m w n r
+  levels_err D t m w n (Ok _) e lost = clash (cc)
+  levels_err D t m w n (Err _) e lost = lost
+
+  pub leveled_err : (t w n : List ℕ) (r : Result (Unit {0}) Emptied) → IsErr r → Lost (Idles v (rules2 v)) v t → Leveled v t w n r
+  leveled_err t w n (Ok _) e lost = clash (cc)
+  leveled_err t w n (Err _) e lost = lost
 
   -- ---- all pairs
 

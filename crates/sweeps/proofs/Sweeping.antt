@@ -1,6 +1,6 @@
 -- One turn of the loop over third boards: a strike by one rule, after those before it. Assumes nothing.
 use mathlib.Core.Path.{◌≡◌, refl, sym, ap₂, ◌∙◌, subst}
-use mathlib.Core.Bool.{true, false}
+use Rattle.std.specs.Prelude.{Ok, Err}
 use mathlib.Core.Logic.{inl, inr}
 use mathlib.Core.List.{List}
 use Prim.Native.Nat.{ℕ, ◌+◌, ◌*◌, ◌<◌}
@@ -15,6 +15,7 @@ use Rattle.rules.proofs.Inside.{inside_trans}
 use Rattle.rules.proofs.Rules.{boards_all}
 use Rattle.passes.specs.Passes.{Idles}
 use Rattle.moves.specs.Watches.{through}
+use Rattle.moves.specs.declared.Emptied.{Emptied}
 use Rattle.moves.specs.Moves.{Struck, Moved, Tended, Lost}
 use Rattle.moves.proofs.Moving.{moved_then, lost_then, strike_moved, strike_lost, strike_within, tended_moved, moved_inside, lost_inside}
 use Rattle.moves.proofs.Passing.{turned}
@@ -37,10 +38,10 @@ module _ {v p q r b z : ℕ} {t m u k : List ℕ} (hp : p < v) (hq : q < v) (hr 
     turned v y (append_left (Idle v y) (rules2 v) (rules3 v) d) p r hp hr,
   )
 
-  pub through_lost : {w n : List ℕ} → Struck v p r b u k w n false → Lost (Evenly v) v t
+  pub through_lost : {w n : List ℕ} {d : Emptied} → Struck v p r b u k w n (Err d) → Lost (Evenly v) v t
   through_lost s = lost_then g (lost_inside (strike_lost g.fit g.list hp hr within s))
 
-  module _ {w n : List ℕ} (s : Struck v p r b u k w n true) where
+  module _ {w n : List ℕ} (s : Struck v p r b u k w n (Ok tt)) where
     pub through_went : Moved (Evenly v) v u k w n
     through_went = moved_inside (strike_moved g.fit g.list hp hr within s)
 

@@ -1,9 +1,10 @@
 -- What the visits to rules 2 and 3 see to. Assumes nothing.
-use Rattle.std.specs.Prelude.{◌≡◌, Bool, true, false, List, ◌++◌, ℕ, ◌<◌, nat_eq}
+use Rattle.std.specs.Prelude.{◌≡◌, Result, Ok, Err, List, ◌++◌, ℕ, ◌<◌, nat_eq}
 use Rattle.rules.specs.Relations.{E, full, ◌lies_within◌, converse}
 use Rattle.rules.specs.Tables.{cell, Table, Inside}
 use Rattle.rules.specs.Closing.{rules2, rules3}
 use Rattle.passes.specs.Passes.{Idles}
+use Rattle.moves.specs.declared.Emptied.{Emptied}
 use Rattle.moves.specs.Watches.{through}
 use Rattle.moves.specs.Moves.{Marks, Off, Mutual, PairPut, kept_of, Tended, Lost}
 
@@ -29,9 +30,9 @@ Selves v t = (p : ℕ) → p < v → cell v t p p lies_within E
 abbrev pub allowed : ℕ → List ℕ → ℕ → ℕ → ℕ
 allowed v t p q = kept_of v t p q (converse (cell v t q p))
 
--- both cells of p and q became what both sides allow; the pair is on the list unless that is all; and it was told whether it is anything
-abbrev pub Level : ℕ → ℕ → ℕ → List ℕ → List ℕ → List ℕ → List ℕ → Bool → Type 0
-Level v p q t m w n some = PairPut (nat_eq (allowed v t p q) full) v p q (allowed v t p q) t m w n some
+-- both cells of p and q became what both sides allow; the pair is on the list unless that is all; and it was told whether it is nothing
+abbrev pub Level : ℕ → ℕ → ℕ → List ℕ → List ℕ → List ℕ → List ℕ → Result (Unit {0}) Emptied → Type 0
+Level v p q t m w n r = PairPut (nat_eq (allowed v t p q) full) v p q (allowed v t p q) t m w n r
 
 -- two boards are the same seen from both sides, something is allowed, and all is unless the pair is on the list
 pub record Sided (v : ℕ) (m t : List ℕ) (p q : ℕ) : Type 0 where
@@ -49,9 +50,9 @@ pub record Sides (v : ℕ) (D : ℕ → ℕ → Type 0) (t m w n : List ℕ) : T
   pub others : (a b : ℕ) → a < b → b < v → Sided v m t a b → Sided v n w a b
   pub these : (a b : ℕ) → a < b → b < v → D a b → Sided v n w a b
 
-abbrev pub Levels : ℕ → (ℕ → ℕ → Type 0) → List ℕ → List ℕ → List ℕ → List ℕ → Bool → Type 0
-Levels v D t m w n true = Sides v D t m w n
-Levels v D t m w n false = Lost (Idles v (rules2 v)) v t
+abbrev pub Levels : ℕ → (ℕ → ℕ → Type 0) → List ℕ → List ℕ → List ℕ → List ℕ → Result (Unit {0}) Emptied → Type 0
+Levels v D t m w n (Ok _) = Sides v D t m w n
+Levels v D t m w n (Err _) = Lost (Idles v (rules2 v)) v t
 
 -- the pairs whose first board is p
 abbrev pub RowOf : ℕ → ℕ → ℕ → Type 0
@@ -65,6 +66,6 @@ pub record Noted (v : ℕ) (t w n : List ℕ) : Type 0 where
   pub list : Marks v n
   pub known : (p q : ℕ) → (p ≡ q → ⊥) → Off v n p q → cell v w p q ≡ full
 
-abbrev pub Leveled : ℕ → List ℕ → List ℕ → List ℕ → Bool → Type 0
-Leveled v t w n true = Noted v t w n
-Leveled v t w n false = Lost (Idles v (rules2 v)) v t
+abbrev pub Leveled : ℕ → List ℕ → List ℕ → List ℕ → Result (Unit {0}) Emptied → Type 0
+Leveled v t w n (Ok _) = Noted v t w n
+Leveled v t w n (Err _) = Lost (Idles v (rules2 v)) v t

@@ -116,3 +116,22 @@ impl Index {
         self.places[b]
     }
 }
+
+// The kind lines of a description for so many boards: how many they are, the words that they fill, and the index that finds them by board.
+#[derive(Clone, Copy)]
+pub struct KindLines<'a> {
+    pub boards: usize,
+    pub count: usize,
+    pub words: &'a [u16],
+    pub index: &'a Index,
+}
+
+impl KindLines<'_> {
+    // Kind line n.
+    pub fn line(&self, n: usize) -> KindLine
+        requires { Located n self.now.words.now self.now.index.now }
+        ensures { result ≡ kind_at self.now.words.now (start_of self.now.words.now n) }
+    {
+        self.index.line_of(self.words, n)
+    }
+}

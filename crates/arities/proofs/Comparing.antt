@@ -10,6 +10,7 @@ use borrow.Author.Tests.{eq-eqb, ne_eqb}
 use lib.Dec.{T, eqb}
 use lib.ListN.{length, take, drop, take-append-drop, length-drop}
 use lib.Seq.{length-take-le, take_all}
+use Rattle.std.specs.Prelude.{Some, None}
 use Rattle.rules.specs.Relations.{some_of}
 use Rattle.rules.specs.Descriptions.{kind_line, disagrees, first_disagreeing, kind_words, OneArity}
 use Rattle.rules.specs.Descriptions as descriptions
@@ -21,7 +22,7 @@ use Rattle.rules.proofs.Arities.{arity_none, arity_more, first_disagreeing_lem, 
 use Rattle.kinds.specs.declared.KindLine.{KindLine}
 use Rattle.kinds.specs.Lines.{kind_at, ways_at, line_at}
 use Rattle.kinds.specs.Sections.{Kinds}
-use Rattle.arities.specs.Arities.{differ, WithinWords, SomeFirst, WithFirst, SomeFill, WithAll}
+use Rattle.arities.specs.Arities.{differ, WithinWords, SomeFirst, WithFirst, SomeFill, WithAll, FirstTold}
 use Rattle.arities.proofs.Places.{After, after_start, after_length, after_words, after_there, after_stands, after_next, after_line}
 
 -- ---- two lines
@@ -98,88 +99,61 @@ module _ {n : ℕ} {ws : List ℕ} {k : KindLine} {found : Bool} {at i : ℕ} (c
 
 -- ---- each of the lines, compared with those before it
 
--- none was found: the first i are of one arity, and the next begins at the word `at`
-pub record Agreeing (v count : ℕ) (ws : List ℕ) (ks : List descriptions.KindLine) (place first at i : ℕ) : Type 0 where
-  pub none_yet : first ≡ count
-  pub nowhere : place ≡ length ws
+-- the first i are of one arity, and the next begins at the word `at`
+pub record Agreeing (v count : ℕ) (ws : List ℕ) (ks : List descriptions.KindLine) (at i : ℕ) : Type 0 where
   pub few : i ≤ count
   pub after : After v count ws at i
   pub one : OneArity (take i ks)
 
--- that, or the first line that disagrees was found, and where it begins
-abbrev pub Sought : ℕ → List ℕ → ℕ → ℕ → ℕ → ℕ → Type 0
-Sought count ws place first at i = (v : ℕ) (ks : List descriptions.KindLine) → Kinds v count ws ks
-    → Agreeing v count ws ks place first at i ⊎ ((i ≡ first + 1) × (first ≡ first_disagreeing [] ks) × (place ≡ kind_words (take first ks)))
+abbrev pub Sought : ℕ → List ℕ → ℕ → ℕ → Type 0
+Sought count ws at i = (v : ℕ) (ks : List descriptions.KindLine) → Kinds v count ws ks → Agreeing v count ws ks at i
 
-pub sought_start : (count : ℕ) (ws : List ℕ) → Sought count ws (length ws) count 0 0
-sought_start count ws v ks fill =
-    inl (record { none_yet = refl; nowhere = refl; few = omega arith; after = after_start v count ws; one = arity_none })
+pub sought_start : (count : ℕ) (ws : List ℕ) → Sought count ws 0 0
+sought_start count ws v ks fill = record { few = omega arith; after = after_start v count ws; one = arity_none }
 
-module _ {count : ℕ} {ws : List ℕ} {place first at i : ℕ} (c : Sought count ws place first at i) where
-  module _ (more : i < first) where
-    still : (v : ℕ) (ks : List descriptions.KindLine) → Kinds v count ws ks → Agreeing v count ws ks place first at i
-    still v ks fill = ⊎_elim (λ a. a) (λ d. let z : ⊥ = omega (arith, d.0) in absurd z) (c v ks fill)
-
+module _ {count : ℕ} {ws : List ℕ} {at i : ℕ} (c : Sought count ws at i) where
+  module _ (more : i < count) where
     module _ (some : SomeFill count ws) where
-      pub sought_few : i < count
-      sought_few =
-          let (v, (ks, fill)) = some in
-          let a = still v ks fill in
-          omega (arith, a.none_yet)
-
       -- the next line has its first words, its ways stand in the words, and there are the lines before it
       pub sought_there : at + 3 ≤ length ws
-      sought_there =
-          let (v, (ks, fill)) = some in
-          let a = still v ks fill in
-          after_there a.after fill (omega (arith, a.none_yet))
+      sought_there = let (v, (ks, fill)) = some in after_there (c v ks fill).after fill more
 
       pub sought_within : {l : KindLine} → l ≡ kind_at ws at → WithinWords ws l
       sought_within met =
           let (v, (ks, fill)) = some in
-          let a = still v ks fill in
-          let s = after_stands a.after fill (omega (arith, a.none_yet)) met in
+          let s = after_stands (c v ks fill).after fill more met in
           (s.ordered, s.room)
 
       pub sought_before : SomeFirst i ws
       sought_before =
           let (v, (ks, fill)) = some in
-          (v, count, (still v ks fill).few, (ks, fill))
+          (v, count, (c v ks fill).few, (ks, fill))
 
     module _ {l : KindLine} (met : l ≡ kind_at ws at) {b : Bool} (tests : WithFirst i ws (λ ks. b ≡ some_of (disagrees (line_at ws l)) ks)) where
       -- that line disagrees with one of those before it
-      pub sought_found : b ≡ true → Sought count ws at i l.end (i + 1)
+      pub sought_found : b ≡ true → WithAll count ws (λ ks. FirstTold ks (Some at))
       sought_found e v ks fill =
-          let a = still v ks fill in
-          let less : i < count = omega (arith, a.none_yet) in
+          let a = c v ks fill in
           let t = true_T (sym (tests v count a.few ks fill) ∙ e) in
           let found = (first_disagreeing_lem (take i ks) (line_at ws l) (drop (i + 1) ks)).1 (a.one, t) in
-          inr (refl, sym (ap (first_disagreeing []) (next_split a.after fill less met) ∙ found ∙ after_length a.after fill), after_words a.after fill)
+          let first : first_disagreeing [] ks ≡ i = ap (first_disagreeing []) (next_split a.after fill more met) ∙ found ∙ after_length a.after fill in
+          let many : length ks ≡ count = section_counted (kind_line v) count ws ks fill in
+          (omega (arith, first, many), after_words a.after fill ∙ ap (λ (n : ℕ). kind_words (take n ks)) (sym first))
 
       -- or agrees with them
-      pub sought_next : b ≡ false → Sought count ws place first l.end (i + 1)
+      pub sought_next : b ≡ false → Sought count ws l.end (i + 1)
       sought_next e v ks fill =
-          let a = still v ks fill in
-          let less : i < count = omega (arith, a.none_yet) in
+          let a = c v ks fill in
           let agrees : T (some_of (disagrees (line_at ws l)) (take i ks)) → ⊥ = λ t. subst T (sym (tests v count a.few ks fill) ∙ e) t in
-          inl
-          (record {
-            none_yet = a.none_yet;
-            nowhere = a.nowhere;
-            few = omega (arith, a.none_yet);
-            after = after_next a.after fill less met;
-            one = subst OneArity (sym (after_line a.after fill less met)) (arity_more (take i ks) (line_at ws l) a.one agrees);
-          })
+          record {
+            few = omega arith;
+            after = after_next a.after fill more met;
+            one = subst OneArity (sym (after_line a.after fill more met)) (arity_more (take i ks) (line_at ws l) a.one agrees);
+          }
 
-  pub sought_end : first ≤ i → WithAll count ws (λ ks. place ≡ kind_words (take (first_disagreeing [] ks) ks))
+  pub sought_end : count ≤ i → WithAll count ws (λ ks. FirstTold ks None)
   sought_end h v ks fill =
-      ⊎_elim none (λ (d : (i ≡ first + 1) × (first ≡ first_disagreeing [] ks) × (place ≡ kind_words (take first ks))).
-      d.2 ∙ ap (λ (n : ℕ). kind_words (take n ks)) d.1) (c v ks fill)
-    where
-      none : Agreeing v count ws ks place first at i → place ≡ kind_words (take (first_disagreeing [] ks) ks)
-      none a =
-          let many : length ks ≡ count = section_counted (kind_line v) count ws ks fill in
-          let e : i ≡ length ks = omega (arith, a.none_yet, a.few, many) in
-          let all : take (length ks) ks ≡ ks = take_all (length ks) ks (le_refl (length ks)) in
-          let one = subst OneArity (ap (λ (j : ℕ). take j ks) e ∙ all) a.one in
-          a.nowhere ∙ sym (section_words v count ws ks fill) ∙ sym (ap kind_words (ap (λ (n : ℕ). take n ks) ((none_disagreeing ks).1 one) ∙ all))
+      let a = c v ks fill in
+      let many : length ks ≡ count = section_counted (kind_line v) count ws ks fill in
+      let e : i ≡ length ks = omega (arith, a.few, many) in
+      (none_disagreeing ks).1 (subst OneArity (ap (λ (j : ℕ). take j ks) e ∙ take_all (length ks) ks (le_refl (length ks))) a.one)

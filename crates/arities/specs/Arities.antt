@@ -1,5 +1,5 @@
 -- Kind lines that are compared by their places in the words of a section. Assumes nothing.
-use Rattle.std.specs.Prelude.{Bool, not, ◌&&◌, List, ℕ, ◌-◌, ◌≤◌, nat_eq, length, take}
+use Rattle.std.specs.Prelude.{◌≡◌, Bool, not, ◌&&◌, List, [], Option, Some, None, ℕ, ◌-◌, ◌≤◌, ◌<◌, nat_eq, length, take}
 use Rattle.rules.specs.Descriptions as descriptions
 use Rattle.kinds.specs.declared.KindLine.{KindLine}
 use Rattle.kinds.specs.Sections.{HasKinds, WithKinds}
@@ -27,3 +27,9 @@ SomeFill count ws = (v : ℕ) × HasKinds v count ws
 -- P holds of the kind lines that fill the words
 abbrev pub WithAll : ℕ → List ℕ → (List descriptions.KindLine → Type 0) → Type 0
 WithAll count ws P = (v : ℕ) → WithKinds v count ws P
+
+-- Where the first of the kind lines begins that disagrees with an earlier one, if one does.
+abbrev pub FirstTold : List descriptions.KindLine → Option ℕ → Type 0
+FirstTold ks (Some at) =
+    (descriptions.first_disagreeing [] ks < length ks) × (at ≡ descriptions.kind_words (take (descriptions.first_disagreeing [] ks) ks))
+FirstTold ks None = descriptions.first_disagreeing [] ks ≡ length ks

@@ -1,11 +1,11 @@
 // One kind code means one number of ways: kind lines are compared with those before them. Any word is a code, so there is no table of codes.
 #![tactic(auto)]
 
-ghost use Rattle.std.specs.Prelude.{◌≡◌, ◌≤◌, [], take};
-ghost use Rattle.rules.specs.Descriptions.{disagrees, first_disagreeing, kind_words};
+ghost use Rattle.std.specs.Prelude.{◌≡◌, ◌≤◌};
+ghost use Rattle.rules.specs.Descriptions.{disagrees};
 ghost use Rattle.rules.specs.Relations.{some_of};
 ghost use Rattle.kinds.specs.Lines.{line_at};
-ghost use Rattle.arities.specs.Arities.{differ, WithinWords, SomeFirst, WithFirst, SomeFill, WithAll};
+ghost use Rattle.arities.specs.Arities.{differ, WithinWords, SomeFirst, WithFirst, SomeFill, WithAll, FirstTold};
 
 use kinds::{KindLine, kind_at};
 
@@ -15,14 +15,7 @@ fn disagree(line: KindLine, other: KindLine) -> bool
     requires { (line.first ≤ line.end) × (other.first ≤ other.end) }
     ensures { result ≡ differ line other }
 {
-    let code = line.code;
-    let other_code = other.code;
-    if code != other_code {
-        return false;
-    }
-    let ways = line.end - line.first;
-    let others = other.end - other.first;
-    ways != others
+    line.code == other.code && line.end - line.first != other.end - other.first
 }
 
 // Tells whether the line disagrees with one of the first `passed` kind lines of the section.
@@ -32,33 +25,26 @@ fn disagrees_before(words: &[u16], passed: usize, line: KindLine) -> bool
 {
     let mut found = false;
     let mut at = 0;
-    let mut i = 0;
-    while i < passed {
+    for _i in 0..passed {
         let other = kind_at(words, at);
-        found = found | disagree(line, other);
+        found |= disagree(line, other);
         at = other.end;
-        i += 1;
     }
     found
 }
 
-// Where the first of the `count` kind lines of the section begins that disagrees with an earlier one, or where the section ends if none does.
-pub fn first_disagreeing(count: usize, words: &[u16]) -> usize
+// Where the first of the `count` kind lines of the section begins that disagrees with an earlier one.
+pub fn first_disagreeing(count: usize, words: &[u16]) -> Option<usize>
     requires { SomeFill count words.now }
-    ensures { WithAll count words.now (λ ks. result ≡ kind_words (take (first_disagreeing [] ks) ks)) }
+    ensures { WithAll count words.now (λ ks. FirstTold ks result) }
 {
-    let mut place = words.len();
-    let mut first = count;
     let mut at = 0;
-    let mut passed = 0;
-    while passed < first {
+    for passed in 0..count {
         let line = kind_at(words, at);
         if disagrees_before(words, passed, line) {
-            first = passed;
-            place = at;
+            return Some(at);
         }
         at = line.end;
-        passed += 1;
     }
-    place
+    None
 }

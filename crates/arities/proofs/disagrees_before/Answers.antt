@@ -1,5 +1,4 @@
--- `disagrees_before` meets its contract: what was found is whether the line disagrees with one passed. The measure is the lines left. Assumes nothing.
-use native.Mathlib.Omega.{arith}
+-- `disagrees_before` meets its contract: what was found is whether the line disagrees with one passed. Assumes nothing.
 use Rattle.arities.proofs.Comparing.{compared_start, compared_there, compared_within, compared_next, compared_end}
 use Rattle.arities.proofs.disagrees_before.Goals as goal
 
@@ -12,12 +11,6 @@ kind_at-other-requires c = compared_there c.loop-i.invariant c.loop-i-test.true 
 pub disagree-found-requires : goal.disagree-found-requires
 disagree-found-requires c =
     (c.requires.0.0, (compared_within c.loop-i.invariant c.loop-i-test.true c.requires.1 c.kind_at-other.ensures).0)
-
-pub overflow_add-i : goal.overflow_add-i
-overflow_add-i c = omega arith
-
-pub loop-i-smaller : goal.loop-i-smaller
-loop-i-smaller c = omega arith
 
 pub loop-i-preserved : goal.loop-i-preserved
 loop-i-preserved c =

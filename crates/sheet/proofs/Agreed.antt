@@ -7,28 +7,26 @@ use native.Mathlib.Nat.{le_refl, eq-or-lt_of_le}
 use native.Mathlib.Omega.{arith}
 use lib.ListN.{length, take}
 use lib.Seq.{take_all}
+use Rattle.std.specs.Prelude.{Some, None}
 use Rattle.rules.specs.Descriptions.{KindLine, Reading, good, refused, next, kind_line, section, first_disagreeing, kind_words, agreed}
 use Rattle.rules.proofs.Tests.{clash}
 use Rattle.rules.proofs.KindWords.{section_words, words_before}
 use Rattle.rules.proofs.Arities.{first_few, none_disagreeing, agreed_in, agreed_refused}
 use Rattle.kinds.specs.Sections.{HasKinds}
-use Rattle.arities.specs.Arities.{SomeFill, WithAll}
+use Rattle.arities.specs.Arities.{SomeFill, WithAll, FirstTold}
 use Rattle.answers.specs.declared.refusals.Refusal.{Refusal}
 use Rattle.answers.specs.Answers.{refusal}
 use Rattle.sheet.specs.declared.sections.SectionFound.TheVariants.{Filled, Refused}
 use Rattle.sheet.specs.Found.{section_found}
 
--- lines that fill the section, with one that disagrees before the end of the words
-pub kinds_apart : (v count : ℕ) (ws : List ℕ) (ks : List KindLine) (n : ℕ) → section (kind_line v) count ws ≡ good ks
-    → n ≡ kind_words (take (first_disagreeing [] ks) ks) → n < length ws → agreed ks ≡ refused 11 (n + 2)
-kinds_apart v count ws ks n e b h =
-    rw b
+-- lines that fill the section, with one that disagrees
+pub kinds_apart : (ks : List KindLine) (n : ℕ) → FirstTold ks (Some n) → agreed ks ≡ refused 11 (n + 2)
+kinds_apart ks n first =
+    rw first.1
     (agreed_refused ks
     (λ one.
     let a : first_disagreeing [] ks ≡ length ks = (none_disagreeing ks).1 one in
-    let i : n ≡ length ws =
-    b ∙ ap (λ (m : ℕ). kind_words (take m ks)) a ∙ ap kind_words (take_all (length ks) ks (le_refl (length ks))) ∙ section_words v count ws ks e in
-    omega arith))
+    omega (arith, first.0)))
 
 module _ (v count : ℕ) (ws : List ℕ) where
   -- what the section is found to be
@@ -54,42 +52,25 @@ module _ (v count : ℕ) (ws : List ℕ) where
     pub kinds_first : SomeFill count ws
     kinds_first = (v, has_kinds)
 
+    abbrev lines : List KindLine
+    lines = has_kinds.0
+
     -- the first that disagrees begins at the word n
-    module _ {n : ℕ} (first : WithAll count ws (λ ks. n ≡ kind_words (take (first_disagreeing [] ks) ks))) where
-      abbrev lines : List KindLine
-      lines = has_kinds.0
+    module _ {n : ℕ} (first : WithAll count ws (λ ks. FirstTold ks (Some n))) where
+      pub kinds_room_lem : n + 3 ≤ length ws
+      kinds_room_lem =
+          let (l, begins) = first v lines has_kinds.1 in
+          omega (arith, words_before lines (first_disagreeing [] lines) l, begins, section_words v count ws lines has_kinds.1)
 
-      filling : kind_words lines ≡ length ws
-      filling = section_words v count ws lines has_kinds.1
-
-      begins : n ≡ kind_words (take (first_disagreeing [] lines) lines)
-      begins = first v lines has_kinds.1
-
-      -- it is not past the lines, or it is
-      past : (first_disagreeing [] lines ≡ length lines) ⊎ (first_disagreeing [] lines < length lines)
-      past = eq-or-lt_of_le (first_few [] lines)
-
-      all_lines : first_disagreeing [] lines ≡ length lines → n ≡ length ws
-      all_lines e = begins ∙ ap (λ (m : ℕ). kind_words (take m lines)) e ∙ ap kind_words (take_all (length lines) lines (le_refl (length lines))) ∙ filling
-
-      some_lines : first_disagreeing [] lines < length lines → n + 3 ≤ length ws
-      some_lines l = omega (arith, words_before lines (first_disagreeing [] lines) l, begins, filling)
-
-      pub kinds_room_lem : n < length ws → n + 3 ≤ length ws
-      kinds_room_lem h = ⊎_elim (λ e. let z : ⊥ = omega (arith, all_lines e) in absurd z) some_lines past
-
-      pub kinds_disagree : n < length ws → Refused (refusal 11 (n + 2)) ≡ section_found (found (section (kind_line v) count ws))
-      kinds_disagree h =
+      pub kinds_disagree : Refused (refusal 11 (n + 2)) ≡ section_found (found (section (kind_line v) count ws))
+      kinds_disagree =
           sym
           (ap (λ (r : Reading (List KindLine)). section_found (found r)) has_kinds.1
-          ∙ ap section_found (kinds_apart v count ws lines n has_kinds.1 begins h))
+          ∙ ap section_found (kinds_apart lines n (first v lines has_kinds.1)))
 
-      pub kinds_agree : length ws ≤ n → Filled ≡ section_found (found (section (kind_line v) count ws))
-      kinds_agree h =
-          sym
-          (ap (λ (r : Reading (List KindLine)). section_found (found r)) has_kinds.1
-          ∙ ap section_found (agreed_in lines ((none_disagreeing lines).0 none)))
-        where
-          none : first_disagreeing [] lines ≡ length lines
-          none =
-              ⊎_elim (λ e. e) (λ l. let z : ⊥ = omega (arith, some_lines l) in absurd z) past
+    -- none does
+    pub kinds_agree : WithAll count ws (λ ks. FirstTold ks None) → Filled ≡ section_found (found (section (kind_line v) count ws))
+    kinds_agree first =
+        sym
+        (ap (λ (r : Reading (List KindLine)). section_found (found r)) has_kinds.1
+        ∙ ap section_found (agreed_in lines ((none_disagreeing lines).0 (first v lines has_kinds.1))))

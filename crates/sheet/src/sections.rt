@@ -71,8 +71,7 @@ pub(crate) fn agreed_section(v: usize, count: usize, words: &[u16]) -> SectionFo
     if let SectionFound::Refused(r) = kinds {
         return SectionFound::Refused(r);
     }
-    let at = arities::first_disagreeing(count, words);
-    if at < words.len() {
+    if let Some(at) = arities::first_disagreeing(count, words) {
         return SectionFound::Refused(Refusal {
             number: DISAGREES,
             place: at + 2,

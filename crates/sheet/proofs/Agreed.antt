@@ -1,17 +1,14 @@
 -- A section of kind lines, by whether its lines fill it and then by the first that disagrees with an earlier one. Assumes nothing.
 use mathlib.Core.Path.{◌≡◌, refl, sym, ap, ◌∙◌}
-use mathlib.Core.Logic.{◌⊎◌, ⊎_elim}
 use mathlib.Core.List.{List, []}
-use Prim.Native.Nat.{ℕ, ◌+◌, ◌≤◌, ◌<◌}
-use native.Mathlib.Nat.{le_refl, eq-or-lt_of_le}
+use Prim.Native.Nat.{ℕ, ◌+◌, ◌≤◌}
 use native.Mathlib.Omega.{arith}
-use lib.ListN.{length, take}
-use lib.Seq.{take_all}
+use lib.ListN.{length}
 use Rattle.std.specs.Prelude.{Some, None}
-use Rattle.rules.specs.Descriptions.{KindLine, Reading, good, refused, next, kind_line, section, first_disagreeing, kind_words, agreed}
+use Rattle.rules.specs.Descriptions.{KindLine, Reading, good, refused, next, kind_line, section, first_disagreeing, agreed}
 use Rattle.rules.proofs.Tests.{clash}
 use Rattle.rules.proofs.KindWords.{section_words, words_before}
-use Rattle.rules.proofs.Arities.{first_few, none_disagreeing, agreed_in, agreed_refused}
+use Rattle.rules.proofs.Arities.{none_disagreeing, agreed_in, agreed_refused}
 use Rattle.kinds.specs.Sections.{HasKinds}
 use Rattle.arities.specs.Arities.{SomeFill, WithAll, FirstTold}
 use Rattle.answers.specs.declared.refusals.Refusal.{Refusal}

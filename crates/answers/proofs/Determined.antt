@@ -1,14 +1,10 @@
 -- Any two answers that a contract of this crate permits are equal. Assumes nothing.
 use mathlib.Core.Path.{sym, ◌∙◌}
 use Rattle.contracts.specs.Promises.{OneResult}
-use Rattle.answers.proofs.refuse.Kinds as refuse_kinds
-use Rattle.answers.proofs.refuse.Reads as refuse
-use Rattle.answers.proofs.refuse_at.Kinds as refuse_at_kinds
-use Rattle.answers.proofs.refuse_at.Reads as refuse-at
-use Rattle.answers.proofs.refusals.later.Kinds as later_kinds
-use Rattle.answers.proofs.refusals.later.Reads as later
-use Rattle.answers.proofs.succeed.Kinds as succeed_kinds
-use Rattle.answers.proofs.succeed.Reads as succeed
+use Rattle.answers.proofs.refusals.Refusal.refused.Kinds as refused_kinds
+use Rattle.answers.proofs.refusals.Refusal.refused.Reads as refused
+use Rattle.answers.proofs.refusals.Refusal.later.Kinds as later_kinds
+use Rattle.answers.proofs.refusals.Refusal.later.Reads as later
 use Rattle.answers.proofs.widths.byte_number.Kinds as byte_number_kinds
 use Rattle.answers.proofs.widths.byte_number.Reads as byte-number
 use Rattle.answers.proofs.widths.word_number.Kinds as word_number_kinds
@@ -26,17 +22,11 @@ use Rattle.answers.proofs.rooms.pairs_room.Reads as pairs-room
 use Rattle.answers.proofs.rooms.words_room.Kinds as words_room_kinds
 use Rattle.answers.proofs.rooms.words_room.Reads as words_room
 
-pub refuse_determined : OneResult 0 refuse_kinds.ps refuse_kinds.r refuse.Asked refuse.Learnt
-refuse_determined κs a asked x y d e p q = p ∙ sym q
-
-pub refuse_at_determined : OneResult 0 refuse_at_kinds.ps refuse_at_kinds.r refuse-at.Asked refuse-at.Learnt
-refuse_at_determined κs a asked x y d e p q = p ∙ sym q
+pub refused_determined : OneResult 0 refused_kinds.ps refused_kinds.r refused.Asked refused.Learnt
+refused_determined κs a asked x y d e p q = p ∙ sym q
 
 pub later_determined : OneResult 0 later_kinds.ps later_kinds.r later.Asked later.Learnt
 later_determined κs a asked x y d e p q = p ∙ sym q
-
-pub succeed_determined : OneResult 0 succeed_kinds.ps succeed_kinds.r succeed.Asked succeed.Learnt
-succeed_determined κs a asked x y d e p q = p ∙ sym q
 
 pub byte_number_determined : OneResult 0 byte_number_kinds.ps byte_number_kinds.r byte-number.Asked byte-number.Learnt
 byte_number_determined κs a asked x y d e p q = p ∙ sym q

@@ -1,4 +1,5 @@
 -- The laws of answers.
 pub mod Outcomes
+pub mod Faults
 pub mod Told
 pub mod Determined

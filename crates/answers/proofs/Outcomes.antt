@@ -1,8 +1,7 @@
 -- An outcome says what was answered and what was left. Assumes nothing.
 use mathlib.Core.Path.{◌≡◌, ap}
 use Rattle.rules.specs.Calls.{Outcome}
-use Rattle.answers.specs.declared.Answer.{Answer}
-use Rattle.answers.specs.Answers.{outcome}
+use Rattle.answers.specs.Answers.{Answer, outcome}
 
 module _ {L : Type 0} where
   pub outcome_determined : (a b : Answer) (u w : L) → outcome a u ≡ outcome b w → (a ≡ b) × (u ≡ w)

@@ -6,8 +6,7 @@ use native.Mathlib.Omega.{arith}
 use Rattle.rules.specs.Descriptions.{Sheet, Reading, good, refused, read}
 use Rattle.rules.specs.Calls.{Outcome, succeed, given, reading}
 use Rattle.rules.proofs.Descriptions.{read_bounded}
-use Rattle.answers.specs.declared.Answer.{Answer}
-use Rattle.answers.specs.Answers.{outcome}
+use Rattle.answers.specs.Answers.{Answer, outcome}
 use Rattle.answers.proofs.Outcomes.{says, counts}
 
 module _ (ws : List ℕ) {a : Answer} (answers : outcome a tt ≡ reading ws) where

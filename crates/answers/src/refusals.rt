@@ -33,6 +33,15 @@ pub enum Fault {
     NoSheet = 20,
 }
 
+impl Fault {
+    // The refusal of a description with this fault, at this place.
+    pub fn at(self, place: usize) -> Refusal
+        ensures { result ≡ record { fault = self; place = place } }
+    {
+        Refusal { fault: self, place }
+    }
+}
+
 impl From<Fault> for u8 {
     ghost from_gives = { λ f n. n ≡ number_of f };
 

@@ -1,3 +1,2 @@
 -- The laws behind the functions of this crate.
-pub mod Headings
 pub mod Determined

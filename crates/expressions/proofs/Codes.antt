@@ -1,6 +1,7 @@
 -- The codes by how many operands they take: what such a code stands for, and which codes there are. Assumes nothing.
-use mathlib.Core.Path.{◌≡◌, refl, ap, ◌∙◌}
-use mathlib.Core.Bool.{Bool, not, ◌||◌}
+use mathlib.Core.Path.{◌≡◌, refl, sym, ap, ◌∙◌}
+use mathlib.Core.Bool.{Bool, true, false, not, ◌||◌}
+use borrow.Author.Tests.{eqb-true, eqb-false}
 use mathlib.Core.Logic.{⊎_elim}
 use Prim.Native.Nat.{ℕ, zero, suc, ◌+◌, ◌*◌, ◌/◌, ◌%◌, ◌^◌, ◌≤◌, ◌<◌}
 use native.Mathlib.Omega.{arith}
@@ -59,6 +60,23 @@ module _ (w : ℕ) (listed : w < length codes) where
 
   pub takes_few : operands (code w) ≤ 2
   takes_few = omega (arith, operands_marked)
+
+  -- by the two tests of bits: it takes none; or one, or two
+  pub takes_none : {b : Bool} → b ≡ eqb (240 / 2 ^ w % 2) 1 → b ≡ false → operands (code w) ≡ 0
+  takes_none {b} said e = omega (arith, operands_marked, eqb-false (240 / 2 ^ w % 2) 1 (sym said ∙ e))
+
+  module _ {b : Bool} (said : b ≡ eqb (240 / 2 ^ w % 2) 1) (some : b ≡ true) where
+    takes-marked : operands (code w) + 192 / 2 ^ w % 2 ≡ 2
+    takes-marked = omega (arith, operands_marked, eqb-true (240 / 2 ^ w % 2) 1 (sym said ∙ some))
+
+    pub takes_some : operands (code w) ≡ 0 → ⊥
+    takes_some e = let z : ⊥ = omega (arith, takes-marked, e) in z
+
+    pub takes_one : {d : Bool} → d ≡ eqb (192 / 2 ^ w % 2) 1 → d ≡ true → operands (code w) ≡ 1
+    takes_one {d} told e = omega (arith, takes-marked, eqb-true (192 / 2 ^ w % 2) 1 (sym told ∙ e))
+
+    pub takes_two : {d : Bool} → d ≡ eqb (192 / 2 ^ w % 2) 1 → d ≡ false → operands (code w) ≡ 2
+    takes_two {d} told e = omega (arith, takes-marked, eqb-false (192 / 2 ^ w % 2) 1 (sym told ∙ e))
 
   -- where no codes but a and b take n operands, one that does and is not a is b
   pub other : (n a b : ℕ) → T (each_below (length codes) (only n a b)) → operands (code w) ≡ n → (w ≡ a → ⊥) → w ≡ b

@@ -8,23 +8,6 @@ ghost use Rattle.rules.specs.Expressions.{relation, codes, code, expression};
 ghost use Rattle.expressions.specs.Codes.{operands, unary, binary, Counts};
 ghost use Rattle.expressions.specs.Found.{expression_found, scan_found};
 
-use answers::widths::word_number;
-
-// What stands at the front of some words: a set and the number of words after its expression; or no expression, and the number of words from the first that goes on
-// with none.
-#[derive(Drop)]
-pub enum Expression {
-    Set(u8, usize),
-    Malformed(usize),
-}
-
-// What a look at some words tells: they are one whole expression, or the number of words from the first that does not go on with one.
-#[derive(Drop)]
-pub enum Scanned {
-    Whole,
-    Fails(usize),
-}
-
 // How many codes there are.
 const CODES: usize = 8;
 
@@ -94,34 +77,29 @@ fn apply_two(word: usize, x: u8, y: u8) -> u8
     }
 }
 
-// Reads the expression at the front of the words: an operator is followed by its operands, each a whole expression. Where an operand fails, the whole does.
-pub fn evaluate(words: &[u16]) -> Expression
+// Reads the expression at the front of the words: an operator is followed by its operands, each a whole expression. Gives its set and the number of words after it;
+// or, where there is none, the number of words from the first that goes on with none. Where an operand fails, the whole does.
+pub fn evaluate(words: &[u16]) -> Result<(u8, usize), usize>
     requires { length words.now ≤ most_expression_words }
     ensures { result ≡ expression_found (expression words.now) }
 {
-    if words.len() == 0 {
-        return Expression::Malformed(0);
+    if words.is_empty() {
+        return Err(0);
     }
-    let word = word_number(words[0]);
+    let word = usize::from(words[0]);
     if CODES <= word {
-        return Expression::Malformed(words.len());
+        return Err(words.len());
     }
     if !among(OPERATORS, word) {
-        return Expression::Set(set_of(word), words.len() - 1);
+        return Ok((set_of(word), words.len() - 1));
     }
-    let first = evaluate(&words[1..]);
-    let Expression::Set(x, left) = first else {
-        return first;
-    };
+    let (x, left) = evaluate(&words[1..])?;
     if among(ONE_OPERAND, word) {
-        return Expression::Set(apply_one(word, x), left);
+        return Ok((apply_one(word, x), left));
     }
     let second = words.len() - left;
-    let last = evaluate(&words[second..]);
-    let Expression::Set(y, rest) = last else {
-        return last;
-    };
-    Expression::Set(apply_two(word, x, y), rest)
+    let (y, rest) = evaluate(&words[second..])?;
+    Ok((apply_two(word, x, y), rest))
 }
 
 // How many operands each code takes.
@@ -148,24 +126,21 @@ fn operands_of(counts: &[u8; CODES], word: usize) -> u32
     counts[word] as u32
 }
 
-// Tells whether the words are one whole expression, without its set: it counts the operands that are still needed. A code is one of these, and needs its own.
+// Tells whether the words are one whole expression, without its set, or the number of words from the first that does not go on with one. It counts the operands that
+// are still needed: a code is one of these, and needs its own.
 #[tactic(auto, using(crate::proofs::Scanning::needing_none, crate::proofs::Scanning::needing_some))]
-pub fn scan(words: &[u16]) -> Scanned
+pub fn scan(words: &[u16]) -> Result<(), usize>
     requires { length words.now ≤ most_expression_words }
     ensures { result ≡ scan_found (expression words.now) }
 {
     let counts = operand_counts();
     let mut needed: u32 = 1;
     for i in 0..words.len() {
-        let word = word_number(words[i]);
+        let word = usize::from(words[i]);
         if needed == 0 || CODES <= word {
-            return Scanned::Fails(words.len() - i);
+            return Err(words.len() - i);
         }
         needed = needed - 1 + operands_of(&counts, word);
     }
-    if needed == 0 {
-        Scanned::Whole
-    } else {
-        Scanned::Fails(0)
-    }
+    if needed == 0 { Ok(()) } else { Err(0) }
 }

@@ -18,7 +18,7 @@ pub returns-then-needed-eq0 : goal.returns-then-needed-eq0
 unfolding codes
 returns-then-needed-eq0 c =
     let words = c.args.words.now in
-    (elim c.then-needed-eq0.branch [ then-needed-eq0-via-then-needed-eq0 w ↦ sym (needing_over words c.loop-i.i (omega arith) c.loop-i.needed (omega arith)) | then-needed-eq0-via-else-needed-eq0+then-word-ge-CODES w ↦ sym (needing_unknown words c.loop-i.i (omega arith) c.loop-i.needed c.word_number-word.result c.word_number-word.ensures (omega tested)) ])
+    (elim c.then-needed-eq0.branch [ then-needed-eq0-via-then-needed-eq0 w ↦ sym (needing_over words c.loop-i.i (omega arith) c.loop-i.needed (omega arith)) | then-needed-eq0-via-else-needed-eq0+then-word-ge-CODES w ↦ sym (needing_unknown words c.loop-i.i (omega arith) c.loop-i.needed c.from-word.result c.from-word.ensures (omega tested)) ])
     ∙ c.loop-i.invariant.0
 
 pub overflow_sub-needed : goal.overflow_sub-needed
@@ -31,7 +31,7 @@ operands_of-requires c = (c.operand_counts-counts.ensures, omega tested)
 pub overflow_add-needed : goal.overflow_add-needed
 unfolding codes
 overflow_add-needed c =
-    let few = takes_few c.word_number-word.result (omega tested) in
+    let few = takes_few c.from-word.result (omega tested) in
     omega (arith, c.operands_of.ensures, few, c.loop-i.invariant.1, c.requires)
 
 pub loop-i-smaller : goal.loop-i-smaller
@@ -40,9 +40,9 @@ loop-i-smaller c = omega arith
 pub loop-i-preserved : goal.loop-i-preserved
 unfolding codes
 loop-i-preserved c =
-    let word = c.word_number-word.result in
+    let word = c.from-word.result in
     let listed : word < length codes = omega tested in
     let few = takes_few word listed in
     let next = needing_next c.args.words.now c.loop-i.i (omega arith) c.loop-i.needed word c.if-needed-eq0.false
-    c.word_number-word.ensures listed in
+    c.from-word.ensures listed in
     (rw c.operands_of.ensures (next ∙ c.loop-i.invariant.0), omega (arith, c.operands_of.ensures, few), omega arith)

@@ -1,22 +1,15 @@
 -- What testing a relation line tells, and what reading a good one finds, by the definitions of a description. Assumes nothing.
-use Rattle.std.specs.Prelude.{◌≡◌, List, ℕ, ◌+◌, ◌-◌, ◌≤◌, ◌<◌, length, slice_index}
+use Rattle.std.specs.Prelude.{◌≡◌, List, ℕ, ◌+◌, ◌-◌, ◌≤◌, ◌<◌, length, slice_index, Result, Ok, Err}
 use Rattle.rules.specs.Descriptions as descriptions
 use Rattle.rules.specs.Descriptions.{Reading, good, refused, Front, most_expression_words, relation_line}
+use Rattle.answers.specs.declared.refusals.Refusal.{Refusal}
 use Rattle.answers.specs.Answers.{refusal}
 use Rattle.lines.specs.declared.RelationLine.{RelationLine}
-use Rattle.lines.specs.declared.LineTold.{LineTold}
-use Rattle.lines.specs.declared.LineTold.TheVariants as told
-use Rattle.lines.specs.declared.FrontFound.{FrontFound}
-use Rattle.lines.specs.declared.FrontFound.TheVariants as front
 
 -- the number of words after a relation line, without the line
-abbrev pub relation_told : Reading (Front descriptions.RelationLine) → LineTold
-relation_told (good f) = told.Rest (length f.rest)
-relation_told (refused n k) = told.Refused (refusal n k)
-
--- a line that its tests before the expression refuse
-abbrev pub refused_front : ℕ → ℕ → FrontFound
-refused_front n k = front.Refused (refusal n k)
+abbrev pub relation_told : Reading (Front descriptions.RelationLine) → Result ℕ Refusal
+relation_told (good f) = Ok (length f.rest)
+relation_told (refused n k) = Err (refusal n k)
 
 -- the tests before the expression are passed, and the line has its end there
 pub record Passes (v : ℕ) (ws : List ℕ) (end : ℕ) : Type 0 where
@@ -29,9 +22,9 @@ pub record Passes (v : ℕ) (ws : List ℕ) (end : ℕ) : Type 0 where
   pub ends : end ≡ 3 + slice_index ws 2
 
 -- what those tests tell of the line at the front of the words
-abbrev pub FrontTells : ℕ → List ℕ → FrontFound → Type 0
-FrontTells v ws (front.Ends end) = Passes v ws end
-FrontTells v ws (front.Refused q) = relation_line v ws ≡ refused q.number q.place
+abbrev pub FrontTells : ℕ → List ℕ → Result ℕ Refusal → Type 0
+FrontTells v ws (Ok end) = Passes v ws end
+FrontTells v ws (Err q) = Err q ≡ relation_told (relation_line v ws)
 
 -- the line at the front of the words is good, for boards below some number
 abbrev pub GoodLine : List ℕ → Type 0

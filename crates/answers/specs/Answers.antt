@@ -1,5 +1,5 @@
 -- An answer of the code, as the definitions of the calls number and count it. Assumes nothing.
-use Rattle.std.specs.Prelude.{ℕ, true, false, nat_eq, Result, Ok, Err}
+use Rattle.std.specs.Prelude.{ℕ, ◌+◌, true, false, nat_eq, Result, Ok, Err}
 use Rattle.rules.specs.Calls.{Outcome}
 use Rattle.answers.specs.declared.refusals.Fault.{Fault}
 use Rattle.answers.specs.declared.refusals.Fault.TheVariants.{OutOfRange, Misplaced, Unfit, NoBoard, NoExpression, Disagrees, NoTable, Contradictory, Nowhere, RanOut, NoArrangement, NoRoom, NoSheet}
@@ -44,6 +44,10 @@ fault_of n =
 -- a refusal with this number at this place
 abbrev pub refusal : ℕ → ℕ → Refusal
 refusal n k = record { fault = fault_of n; place = k }
+
+-- the same refusal, where so many words stand before those that were read
+abbrev pub later_by : ℕ → Refusal → Refusal
+later_by m r = record { fault = r.fault; place = m + r.place }
 
 -- what a call answers: a number, 0 for success and else that of its fault, and a count
 pub record Answer : Type 0 where

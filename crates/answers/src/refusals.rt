@@ -1,6 +1,6 @@
 // The refusals by their numbers, in the order in which they are looked for; and their places.
 ghost use Rattle.std.specs.Prelude.{◌≡◌, ◌+◌, ◌^◌, ◌<◌};
-ghost use Rattle.answers.specs.Answers.{refusal, number_of};
+ghost use Rattle.answers.specs.Answers.{number_of, later_by};
 
 // Why a call refuses, by the number that the rules document gives it.
 #[derive(Clone, Copy, Debug, PartialEq, Eq)]
@@ -69,7 +69,7 @@ impl Refusal {
     // The same refusal, where so many words stand before those that were read.
     pub fn later(self, words: usize) -> Refusal
         requires { words + self.place < 2 ^ 64 }
-        ensures { result ≡ record { fault = self.fault; place = words + self.place } }
+        ensures { result ≡ later_by words self }
     {
         Refusal {
             fault: self.fault,

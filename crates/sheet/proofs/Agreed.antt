@@ -13,7 +13,7 @@ use Rattle.kinds.specs.Sections.{HasKinds}
 use Rattle.arities.specs.Arities.{SomeFill, WithAll, FirstTold}
 use Rattle.answers.specs.declared.refusals.Refusal.{Refusal}
 use Rattle.answers.specs.Answers.{refusal}
-use Rattle.sheet.specs.declared.sections.SectionFound.TheVariants.{Filled, Refused}
+use Rattle.std.specs.Prelude.{Ok, Err}
 use Rattle.sheet.specs.Found.{section_found}
 
 -- lines that fill the section, with one that disagrees
@@ -31,18 +31,18 @@ module _ (v count : ℕ) (ws : List ℕ) where
   found r = next r agreed
 
   -- a line is refused, or they fill the section
-  pub kinds_refused : (q : Refusal) → Refused q ≡ section_found (section (kind_line v) count ws) → Refused q ≡ section_found (found (section (kind_line v) count ws))
+  pub kinds_refused : (q : Refusal) → Err q ≡ section_found (section (kind_line v) count ws) → Err q ≡ section_found (found (section (kind_line v) count ws))
   kinds_refused q = go (section (kind_line v) count ws)
     where
-      go : (r : Reading (List KindLine)) → Refused q ≡ section_found r → Refused q ≡ section_found (found r)
+      go : (r : Reading (List KindLine)) → Err q ≡ section_found r → Err q ≡ section_found (found r)
       go (good ks) p = clash (cc)
       go (refused n k) p = p
 
-  module _ (filled : Filled ≡ section_found (section (kind_line v) count ws)) where
+  module _ (filled : Ok tt ≡ section_found (section (kind_line v) count ws)) where
     has_kinds : HasKinds v count ws
     has_kinds = go (section (kind_line v) count ws) refl filled
       where
-        go : (r : Reading (List KindLine)) → section (kind_line v) count ws ≡ r → Filled ≡ section_found r → HasKinds v count ws
+        go : (r : Reading (List KindLine)) → section (kind_line v) count ws ≡ r → Ok tt ≡ section_found r → HasKinds v count ws
         go (good ks) e p = (ks, e)
         go (refused n k) e p = clash (cc)
 
@@ -59,14 +59,14 @@ module _ (v count : ℕ) (ws : List ℕ) where
           let (l, begins) = first v lines has_kinds.1 in
           omega (arith, words_before lines (first_disagreeing [] lines) l, begins, section_words v count ws lines has_kinds.1)
 
-      pub kinds_disagree : Refused (refusal 11 (n + 2)) ≡ section_found (found (section (kind_line v) count ws))
+      pub kinds_disagree : Err (refusal 11 (n + 2)) ≡ section_found (found (section (kind_line v) count ws))
       kinds_disagree =
           sym
           (ap (λ (r : Reading (List KindLine)). section_found (found r)) has_kinds.1
           ∙ ap section_found (kinds_apart lines n (first v lines has_kinds.1)))
 
     -- none does
-    pub kinds_agree : WithAll count ws (λ ks. FirstTold ks None) → Filled ≡ section_found (found (section (kind_line v) count ws))
+    pub kinds_agree : WithAll count ws (λ ks. FirstTold ks None) → Ok tt ≡ section_found (found (section (kind_line v) count ws))
     kinds_agree first =
         sym
         (ap (λ (r : Reading (List KindLine)). section_found (found r)) has_kinds.1

@@ -12,8 +12,9 @@ use Rattle.rules.proofs.Descriptions.{read_out, read_well_formed}
 use Rattle.rules.proofs.Places.{place_small}
 use Rattle.answers.specs.declared.refusals.Refusal.{Refusal}
 use Rattle.headers.specs.declared.Header.{Header}
-use Rattle.headers.specs.declared.HeaderFound.TheVariants.{Good, Refused}
-use Rattle.answers.specs.Answers.{refusal}
+use Rattle.std.specs.Prelude.{Ok, Err}
+use Rattle.answers.specs.Answers.{number_of, refusal}
+use Rattle.answers.proofs.Faults.{read_faulty}
 use Rattle.headers.specs.Found.{numbers, numbers_found}
 use Rattle.kinds.specs.Sections.{HasAgreed}
 use Rattle.sheet.specs.Found.{description_found}
@@ -46,24 +47,26 @@ module _ (ws : List ℕ) where
             ∙ later_out (get_or ws 4 0) (section _ _ _) s.kinds r.kinds;
       }
 
-  pub described : (h : Header) → Good h ≡ description_found ws → (s : Sheet) × Described ws h s
+  pub described : (h : Header) → Ok h ≡ description_found ws → (s : Sheet) × Described ws h s
   described h p = go (read ws) refl p
     where
-      go : (r : Reading Sheet) → read ws ≡ r → Good h ≡ numbers_found ws r → (s : Sheet) × Described ws h s
+      go : (r : Reading Sheet) → read ws ≡ r → Ok h ≡ numbers_found ws r → (s : Sheet) × Described ws h s
       go (good s) e p = let i : h ≡ numbers ws = cc in (s, subst (λ (j : Header). Described ws j s) (sym i) (numbered s e))
       go (refused n k) e p = clash (cc)
 
   -- a description that was refused
-  pub undescribed : (q : Refusal) → Refused q ≡ description_found ws → read ws ≡ refused q.number q.place
+  pub undescribed : (q : Refusal) → Err q ≡ description_found ws → read ws ≡ refused (number_of q.fault) q.place
   undescribed q p = go (read ws) refl p
     where
-      go : (r : Reading Sheet) → read ws ≡ r → Refused q ≡ numbers_found ws r → read ws ≡ refused q.number q.place
+      go : (r : Reading Sheet) → read ws ≡ r → Err q ≡ numbers_found ws r → read ws ≡ refused (number_of q.fault) q.place
       go (good s) e p = clash (cc)
-      go (refused n k) e p = let f : q ≡ refusal n k = cc in e ∙ ap (λ (r : Refusal). refused r.number r.place) (sym f)
+      go (refused n k) e p =
+          let f : q ≡ refusal n k = cc in
+          e ∙ ap (λ (m : ℕ). refused m k) (sym (read_faulty ws n k e)) ∙ ap (λ (r : Refusal). refused (number_of r.fault) r.place) (sym f)
 
 -- its place is a count
-pub undescribed_place : (ws : List ℕ) (q : Refusal) → Refused q ≡ description_found ws → get_or ws 5 0 < 65536 → q.place < 2 ^ 32
-undescribed_place ws q p small = omega (arith, place_small ws q.number q.place (undescribed ws q p), small)
+pub undescribed_place : (ws : List ℕ) (q : Refusal) → Err q ≡ description_found ws → get_or ws 5 0 < 65536 → q.place < 2 ^ 32
+undescribed_place ws q p small = omega (arith, place_small ws (number_of q.fault) q.place (undescribed ws q p), small)
 
 -- words mean one description
 pub described_one : {ws : List ℕ} {h : Header} {s u : Sheet} → Described ws h s → read ws ≡ good u → s ≡ u

@@ -6,20 +6,28 @@ use native.Mathlib.Omega.{arith}
 use lib.ListN.{length, take, drop, length-drop}
 use Rattle.rules.specs.Descriptions.{Reading, good, refused, Front, section}
 use Rattle.rules.proofs.Parts.{Suffix, tail}
-use Rattle.rules.proofs.Walks.{Walk, walk_refused, walk_next, walk_over, walk_filled}
+use Rattle.rules.proofs.Walks.{Walk, walk_start, walk_refused, walk_next, walk_over, walk_filled}
 use Rattle.answers.specs.declared.refusals.Refusal.{Refusal}
-use Rattle.sheet.specs.declared.sections.SectionFound.TheVariants.{Filled, Refused}
-use Rattle.answers.specs.Answers.{refusal}
+use Rattle.std.specs.Prelude.{Ok, Err}
+use Rattle.answers.specs.Answers.{refusal, later_by}
 use Rattle.sheet.specs.Found.{section_found, end_found}
 
 -- a section after its last line
-pub end_over : (at n : ℕ) → 0 < n → Refused (refusal 3 at) ≡ end_found at n
+pub end_over : (at n : ℕ) → 0 < n → Err (refusal 3 at) ≡ end_found at n
 end_over at zero h = let z : ⊥ = omega arith in absurd z
 end_over at (suc n) h = refl
 
-pub end_filled : (at n : ℕ) → n ≤ 0 → Filled ≡ end_found at n
+pub end_filled : (at n : ℕ) → n ≤ 0 → Ok tt ≡ end_found at n
 end_filled at zero h = refl
 end_filled at (suc n) h = let z : ⊥ = omega arith in absurd z
+
+-- the walk of a loop that counts the lines passed
+module _ {X : Type 0} {line : List ℕ → Reading (Front X)} {count : ℕ} {ws : List ℕ} where
+  pub none_passed : Walk line count ws 0 (count - 0)
+  none_passed = let e : count ≡ count - 0 = omega arith in subst (Walk line count ws 0) e (walk_start line count ws)
+
+  pub one_passed : {at : ℕ} (k : ℕ) → Walk line count ws at (count - k - 1) → Walk line count ws at (count - (k + 1))
+  one_passed {at} k w = let e : count - k - 1 ≡ count - (k + 1) = omega arith in subst (Walk line count ws at) e w
 
 -- at the word `at`, with `left` lines to go, off the part of the words that code lends
 module _ {X : Type 0} {line : List ℕ → Reading (Front X)} {count : ℕ} {ws : List ℕ} {at left : ℕ} (w : Walk line count ws at left) where
@@ -36,10 +44,10 @@ module _ {X : Type 0} {line : List ℕ → Reading (Front X)} {count : ℕ} {ws 
           let h : k ≤ length (drop at ws) = within (drop at ws) n k (lent e) in
           omega (arith, place, h, length-drop at ws, w.within)
 
-      pub found_refused : {r : Refusal} → r ≡ refusal q.number (at + q.place) → Refused r ≡ section_found (section line count ws)
+      pub found_refused : {r : Refusal} → r ≡ later_by at q → Err r ≡ section_found (section line count ws)
       found_refused moved =
           let (n, k, e, same) = found in
-          ap Refused (moved ∙ ap (λ (r : Refusal). refusal r.number (at + r.place)) same)
+          ap Err (moved ∙ ap (later_by at) same)
           ∙ sym (ap section_found (walk_refused line count ws w n k more (lent e)))
 
     pub found_next : {k : ℕ} → ((us : List ℕ) (f : Front X) → line us ≡ good f → Suffix us f.rest)

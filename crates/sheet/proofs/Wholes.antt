@@ -13,12 +13,9 @@ use Rattle.rules.proofs.Headers.{Placed, numbers_in, numbers_out, places_in, pla
 use Rattle.rules.proofs.PlacedSections.{placing_relations}
 use Rattle.rules.proofs.PlacedKinds.{placing_agreed}
 use Rattle.answers.specs.declared.refusals.Refusal.{Refusal}
-use Rattle.answers.specs.Answers.{refusal}
+use Rattle.answers.specs.Answers.{number_of, refusal, later_by}
 use Rattle.headers.specs.declared.Header.{Header}
-use Rattle.headers.specs.declared.HeaderFound.{HeaderFound}
-use Rattle.headers.specs.declared.HeaderFound.TheVariants.{Good, Refused}
-use Rattle.sheet.specs.declared.sections.SectionFound.{SectionFound}
-use Rattle.sheet.specs.declared.sections.SectionFound.TheVariants as sections
+use Rattle.std.specs.Prelude.{Result, Ok, Err}
 use Rattle.headers.specs.Found.{numbers, numbers_found, header_found}
 use Rattle.sheet.specs.Found.{section_found, description_found}
 use Rattle.sheet.proofs.Described.{described, undescribed}
@@ -44,11 +41,11 @@ module _ (ws : List ℕ) where
   lines_read_lem r k = next (both r k) (agreed_sheet (get_or ws 4 0))
 
   -- a header that is refused
-  pub description_unheaded : (q : Refusal) → Refused q ≡ header_found ws → Refused q ≡ description_found ws
+  pub description_unheaded : (q : Refusal) → Err q ≡ header_found ws → Err q ≡ description_found ws
   unfolding read meant relation_lines kind_lines
   description_unheaded q p = go (after_header ws (good ws)) refl p
     where
-      go : (r : Reading (List ℕ)) → after_header ws (good ws) ≡ r → Refused q ≡ numbers_found ws r → Refused q ≡ description_found ws
+      go : (r : Reading (List ℕ)) → after_header ws (good ws) ≡ r → Err q ≡ numbers_found ws r → Err q ≡ description_found ws
       go (good us) e f = clash (cc)
       go (refused n k) e f =
           f ∙ sym (ap (λ (r : Reading Sheet). numbers_found ws (next r (agreed_sheet (get_or ws 4 0)))) (header_refused ws ws (both own_lines own_kinds) n k e))
@@ -59,11 +56,11 @@ module _ (ws : List ℕ) where
     pub placed : Placed ws
     pub rest : read ws ≡ lines_read_lem own_lines own_kinds
 
-  pub headed : (h : Header) → Good h ≡ header_found ws → Headed h
+  pub headed : (h : Header) → Ok h ≡ header_found ws → Headed h
   unfolding read meant relation_lines kind_lines
   headed h p = go (after_header ws (good ws)) refl p
     where
-      go : (r : Reading (List ℕ)) → after_header ws (good ws) ≡ r → Good h ≡ numbers_found ws r → Headed h
+      go : (r : Reading (List ℕ)) → after_header ws (good ws) ≡ r → Ok h ≡ numbers_found ws r → Headed h
       go (refused n k) e f = clash (cc)
       go (good us) e f =
           let (numbered, second) = numbers_out ws (after_offsets ws (good ws)) us e in
@@ -87,12 +84,12 @@ module _ (ws : List ℕ) where
         (subst (λ (k : ℕ). get_or ws 4 0 ≤ k) good-header.placed.total good-header.placed.before)
 
     -- the parts that code lends are the two sections
-    pub relation_part_lem : (s : SectionFound) → s ≡ section_found (section (relation_line h.boards) h.lines.count (take (h.kinds.at - 6) (drop 6 ws)))
+    pub relation_part_lem : (s : Result (Unit {0}) Refusal) → s ≡ section_found (section (relation_line h.boards) h.lines.count (take (h.kinds.at - 6) (drop 6 ws)))
         → s ≡ section_found own_lines
     relation_part_lem s e =
         subst (λ (g : Header). s ≡ section_found (section (relation_line g.boards) g.lines.count (take (g.kinds.at - 6) (drop 6 ws)))) good-header.is e
 
-    pub kind_part_lem : (s : SectionFound)
+    pub kind_part_lem : (s : Result (Unit {0}) Refusal)
         → s ≡ section_found (next (section (kind_line h.boards) h.kinds.count (take (length ws - h.kinds.at) (drop h.kinds.at ws))) agreed)
         → s ≡ section_found agreed_kinds
     kind_part_lem s e =
@@ -100,43 +97,44 @@ module _ (ws : List ℕ) where
         (subst (λ (g : Header). s ≡ section_found (next (section (kind_line g.boards) g.kinds.count (take (length ws - g.kinds.at) (drop g.kinds.at ws))) agreed)) good-header.is e)
 
     -- a refusal in a section has its place within it
-    refused_out : {X : Type 0} (r : Reading X) (q : Refusal) → sections.Refused q ≡ section_found r → r ≡ refused q.number q.place
+    refused_out : {X : Type 0} (r : Reading X) (q : Refusal) → Err q ≡ section_found r → (n k : ℕ) × (r ≡ refused n k) × (q ≡ refusal n k)
     refused_out (good x) q e = clash (cc)
-    refused_out (refused n k) q e = cc
+    refused_out (refused n k) q e = (n, k, refl, cc)
 
-    pub lines_place : (q : Refusal) → sections.Refused q ≡ section_found own_lines → 6 + q.place ≤ length ws
+    pub lines_place : (q : Refusal) → Err q ≡ section_found own_lines → 6 + q.place ≤ length ws
     lines_place q p =
         let part = take (get_or ws 4 0 - 6) (drop 6 ws) in
         let few : get_or ws 4 0 - 6 ≤ length (drop 6 ws) = omega (arith, good-header.placed.before, good-header.placed.total, length-drop 6 ws) in
-        let h : q.place ≤ length part =
-        (placing_relations (get_or ws 0 0) (get_or ws 1 0)).within part q.number q.place (refused_out own_lines q p) in
-        omega (arith, h, few, length-take-le (get_or ws 4 0 - 6) (drop 6 ws) few, good-header.placed.after, good-header.placed.before, good-header.placed.total)
+        let (n, k, refuses, same) = refused_out own_lines q p in
+        let h : k ≤ length part = (placing_relations (get_or ws 0 0) (get_or ws 1 0)).within part n k refuses in
+        omega (arith, h, ap (λ (r : Refusal). r.place) same, few, length-take-le (get_or ws 4 0 - 6) (drop 6 ws) few, good-header.placed.after, good-header.placed.before, good-header.placed.total)
 
-    pub kinds_place : (q : Refusal) → sections.Refused q ≡ section_found agreed_kinds → h.kinds.at + q.place ≤ length ws
+    pub kinds_place : (q : Refusal) → Err q ≡ section_found agreed_kinds → h.kinds.at + q.place ≤ length ws
     kinds_place q p =
         let part = drop (get_or ws 4 0) ws in
-        let place : q.place ≤ length part =
-        (placing_agreed (get_or ws 0 0) (get_or ws 2 0)).within part q.number q.place (refused_out agreed_kinds q p) in
+        let (n, k, refuses, same) = refused_out agreed_kinds q p in
+        let place : k ≤ length part = (placing_agreed (get_or ws 0 0) (get_or ws 2 0)).within part n k refuses in
         let at : h.kinds.at ≡ get_or ws 4 0 = ap (λ (g : Header). g.kinds.at) good-header.is in
-        omega (arith, place, at, kinds_inside, length-drop (get_or ws 4 0) ws)
+        omega (arith, place, ap (λ (r : Refusal). r.place) same, at, kinds_inside, length-drop (get_or ws 4 0) ws)
 
     -- the first section that is refused, or neither
-    pub description_no_lines : (q r : Refusal) → sections.Refused q ≡ section_found own_lines → r ≡ refusal q.number (6 + q.place) → Refused r ≡ description_found ws
+    pub description_no_lines : (q r : Refusal) → Err q ≡ section_found own_lines → r ≡ later_by 6 q → Err r ≡ description_found ws
     description_no_lines q r p moved =
-        ap Refused moved
-        ∙ sym (ap (numbers_found ws) (good-header.rest ∙ ap (λ (x : Reading (List RelationLine)). lines_read_lem x own_kinds) (refused_out own_lines q p)))
+        let (n, k, refuses, same) = refused_out own_lines q p in
+        ap Err (moved ∙ ap (later_by 6) same)
+        ∙ sym (ap (numbers_found ws) (good-header.rest ∙ ap (λ (x : Reading (List RelationLine)). lines_read_lem x own_kinds) refuses))
 
-    module _ (filled : sections.Filled ≡ section_found own_lines) where
+    module _ (filled : Ok tt ≡ section_found own_lines) where
       after_lines : (ls : List RelationLine) × (own_lines ≡ good ls)
       after_lines = go own_lines filled
         where
-          go : (r : Reading (List RelationLine)) → sections.Filled ≡ section_found r → (ls : List RelationLine) × (r ≡ good ls)
+          go : (r : Reading (List RelationLine)) → Ok tt ≡ section_found r → (ls : List RelationLine) × (r ≡ good ls)
           go (good ls) e = (ls, refl)
           go (refused n k) e = clash (cc)
 
       -- what is found of the kind lines decides
-      by_kinds : (P : SectionFound → HeaderFound → Type 0) → ((n k : ℕ) → P (sections.Refused (refusal n k)) (Refused (refusal n (get_or ws 4 0 + k))))
-          → P sections.Filled (Good (numbers ws)) → P (section_found agreed_kinds) (description_found ws)
+      by_kinds : (P : Result (Unit {0}) Refusal → Result Header Refusal → Type 0) → ((n k : ℕ) → P (Err (refusal n k)) (Err (refusal n (get_or ws 4 0 + k))))
+          → P (Ok tt) (Ok (numbers ws)) → P (section_found agreed_kinds) (description_found ws)
       by_kinds P f g = rw (good-header.rest, after_lines.1) (go own_kinds)
         where
           test : (s : Sheet) (r : Reading (List KindLine)) → P (section_found r) (numbers_found ws (next (later (get_or ws 4 0) r) (λ ks. good s)))
@@ -147,24 +145,24 @@ module _ (ws : List ℕ) where
           go (good ks) = test (record { boards = get_or ws 0 0; lines = after_lines.0; kinds = ks }) (agreed ks)
           go (refused n k) = f n k
 
-      pub description_no_kinds : (q r : Refusal) → sections.Refused q ≡ section_found agreed_kinds → r ≡ refusal q.number (h.kinds.at + q.place)
-          → Refused r ≡ description_found ws
+      pub description_no_kinds : (q r : Refusal) → Err q ≡ section_found agreed_kinds → r ≡ later_by h.kinds.at q → Err r ≡ description_found ws
       description_no_kinds q r p moved =
           let at : h.kinds.at ≡ get_or ws 4 0 = ap (λ (g : Header). g.kinds.at) good-header.is in
-          ap Refused (moved ∙ ap (λ (m : ℕ). refusal q.number (m + q.place)) at)
-          ∙ by_kinds (λ s d. sections.Refused q ≡ s → Refused (refusal q.number (get_or ws 4 0 + q.place)) ≡ d) (λ n k e. cc) (λ e. clash (cc)) p
+          ap Err (moved ∙ ap (λ (m : ℕ). later_by m q) at)
+          ∙ by_kinds (λ s d. Err q ≡ s → Err (later_by (get_or ws 4 0) q) ≡ d)
+          (λ n k e. let same : q ≡ refusal n k = cc in ap (λ (r : Refusal). Err (later_by (get_or ws 4 0) r)) same) (λ e. clash (cc)) p
 
-      pub description_read : sections.Filled ≡ section_found agreed_kinds → Good h ≡ description_found ws
-      description_read p = by_kinds (λ s d. sections.Filled ≡ s → Good h ≡ d) (λ n k e. clash (cc)) (λ e. ap Good good-header.is) p
+      pub description_read : Ok tt ≡ section_found agreed_kinds → Ok h ≡ description_found ws
+      description_read p = by_kinds (λ s d. Ok tt ≡ s → Ok h ≡ d) (λ n k e. clash (cc)) (λ e. ap Ok good-header.is) p
 
   -- what was found, as an outcome
   outcome_of : Reading Sheet → Outcome (Unit {0})
   outcome_of r = given r tt (λ s. succeed 0 tt)
 
-  pub reading_good : (h : Header) → Good h ≡ description_found ws → succeed 0 tt ≡ reading ws
+  pub reading_good : (h : Header) → Ok h ≡ description_found ws → succeed 0 tt ≡ reading ws
   unfolding reading outcome_of
   reading_good h p = sym (ap outcome_of (described ws h p).1.means)
 
-  pub reading_refused : (q : Refusal) → Refused q ≡ description_found ws → refuse q.number q.place tt ≡ reading ws
+  pub reading_refused : (q : Refusal) → Err q ≡ description_found ws → refuse (number_of q.fault) q.place tt ≡ reading ws
   unfolding reading outcome_of
   reading_refused q p = sym (ap outcome_of (undescribed ws q p))

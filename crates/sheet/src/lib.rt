@@ -6,28 +6,19 @@ mod sections;
 ghost use Rattle.std.specs.Prelude.{◌≡◌};
 ghost use Rattle.sheet.specs.Found.{description_found};
 
-use crate::sections::{SectionFound, agreed_section, relation_section};
+use crate::sections::{agreed_section, relation_section};
 use answers::limits::HEADER_WORDS;
-use answers::refusals::later;
-use headers::HeaderFound;
+use answers::refusals::Refusal;
+use headers::Header;
 
 // Reads a whole description: its header, once every line has been read, or the first refusal.
-pub fn description(words: &[u16]) -> HeaderFound
+pub fn description(words: &[u16]) -> Result<Header, Refusal>
     ensures { result ≡ description_found words.now }
 {
-    let h = match headers::read_header(words) {
-        HeaderFound::Good(h) => h,
-        HeaderFound::Refused(r) => return HeaderFound::Refused(r),
-    };
-    let boards = h.boards;
+    let h = headers::read_header(words)?;
     let kinds_at = h.kinds.at;
-    let lines = relation_section(boards, h.lines.count, &words[HEADER_WORDS..kinds_at]);
-    if let SectionFound::Refused(r) = lines {
-        return HeaderFound::Refused(later(HEADER_WORDS, r));
-    }
-    let kinds = agreed_section(boards, h.kinds.count, &words[kinds_at..]);
-    if let SectionFound::Refused(r) = kinds {
-        return HeaderFound::Refused(later(kinds_at, r));
-    }
-    HeaderFound::Good(h)
+    let lines = &words[HEADER_WORDS..kinds_at];
+    relation_section(h.boards, h.lines.count, lines).map_err(|r| r.later(HEADER_WORDS))?;
+    agreed_section(h.boards, h.kinds.count, &words[kinds_at..]).map_err(|r| r.later(kinds_at))?;
+    Ok(h)
 }

@@ -1,9 +1,7 @@
+use Prim.Native.Nat.{◌-◌}
 use Rattle.rules.specs.Descriptions.{kind_line}
 use Rattle.rules.proofs.Walks.{Walk}
 use Rattle.sheet.proofs.sections.kind_section.Given as goal
 
-abbrev pub invariant-loop-left : goal.invariant-loop-left
-invariant-loop-left l = Walk (kind_line l.v) l.count l.words l.at l.left
-
-abbrev pub decreases-loop-left : goal.decreases-loop-left
-decreases-loop-left l = l.left
+abbrev pub invariant-loop : goal.invariant-loop
+invariant-loop l = Walk (kind_line l.v) l.count l.words l.at (l.count - l.counter)

@@ -15,8 +15,7 @@ use Rattle.rules.proofs.Tests.{T_true, T_false}
 use Rattle.rules.proofs.Largest.{closing_largest, largest_unique}
 use Rattle.rules.proofs.Full.{full_table, filled_taken}
 use Rattle.rules.proofs.Called.{by_cells, opening_good, close_good}
-use Rattle.answers.specs.declared.Answer.{Answer}
-use Rattle.answers.specs.Answers.{answered, outcome}
+use Rattle.answers.specs.Answers.{Answer, answered, outcome}
 use Rattle.headers.specs.declared.Header.{Header}
 use Rattle.sheet.proofs.Described.{described}
 use Rattle.sweeps.specs.declared.Swept.{Swept}
@@ -55,15 +54,15 @@ admitted_closes admitted copy w r closed =
 
 -- what closing the cells t came to, told of the lent table
 module _ {h : Header} {ws t : List ℕ} (admitted : Admitted h ws t) (lent w : List ℕ) (r : Swept) (closed : ClosesUnder ws t w r) where
-  pub into_emptied : {a : Answer} → r ≡ Emptied → a ≡ answered 7 0 → ClosedInto ws t lent lent a
-  into_emptied e f s means = ap (λ (a : Answer). outcome a lent) f ∙ into_contradictory lent s t (subst (closes s t w) e (closed s means))
+  pub into_emptied : r ≡ Emptied → ClosedInto ws t lent lent (answered 7 0)
+  into_emptied e s means = into_contradictory lent s t (subst (closes s t w) e (closed s means))
 
-  pub into_struck : {a : Answer} {x : List ℕ} {n : ℕ} → r ≡ Struck n → x ≡ w → a ≡ answered 0 n → ClosedInto ws t lent x a
-  into_struck {a} {x} {n} e f g s means =
+  pub into_struck : {x : List ℕ} {n : ℕ} → r ≡ Struck n → x ≡ w → ClosedInto ws t lent x (answered 0 n)
+  into_struck {x} {n} e f s means =
       let d = admitted_means admitted in
       let good-one : good d.0 ≡ good s = sym d.1 ∙ means in
       let one : d.0 ≡ s = cc in
-      ap (λ (a : Answer). outcome a x) g ∙ ap (succeed n) f
+      ap (succeed n) f
       ∙ into_closed lent s t (subst (λ (u : Sheet). Table u.boards t) one d.2) w n (subst (closes s t w) e (closed s means))
 
 -- closing a copy u of the lent table into it is closing

@@ -11,7 +11,7 @@ use Rattle.rules.specs.Closed.{Largest}
 use Rattle.rules.specs.Closing.{closing}
 use Rattle.rules.proofs.Largest.{closing_largest, largest_unique}
 use Rattle.contracts.specs.Promises.{OfTwo, OneResult, OneOutcome}
-use Rattle.answers.proofs.Outcomes.{outcome_determined}
+use Rattle.answers.proofs.Faults.{result_determined}
 use Rattle.passes.specs.Passes.{Filled}
 use Rattle.sheet.proofs.Described.{described}
 use Rattle.by_board.proofs.Agreeing.{indexed_same}
@@ -75,7 +75,7 @@ pub tell_kinds_determined : OneResult 1 tell_kinds_kinds.ps tell_kinds_kinds.r t
 tell_kinds_determined κs a asked x y d e p q = indexed_same p.index q.index
 
 pub close_table_determined : OneOutcome 2 table_kinds.ps table_kinds.r table.Asked table.Learnt (λ κs e. e.1.1.0.now)
-close_table_determined κs a asked x y d e p q = outcome_determined x y d.1.1.0.now e.1.1.0.now (p ∙ sym q)
+close_table_determined κs a asked x y d e p q = result_determined x y d.1.1.0.now e.1.1.0.now (p ∙ sym q)
 
 pub open_table_determined : OneOutcome 2 open_table_kinds.ps open_table_kinds.r open-table.Asked open-table.Learnt (λ κs e. e.1.1.0.now)
-open_table_determined κs a asked x y d e p q = outcome_determined x y d.1.1.0.now e.1.1.0.now (p ∙ sym q)
+open_table_determined κs a asked x y d e p q = result_determined x y d.1.1.0.now e.1.1.0.now (p ∙ sym q)

@@ -1,15 +1,13 @@
 -- What closing a working copy of a table comes to. Assumes nothing.
-use Rattle.std.specs.Prelude.{◌≡◌, Bool, true, false, List, ◌++◌, ℕ, ◌+◌, ◌*◌, ◌-◌, T, length, take, drop}
+use Rattle.std.specs.Prelude.{◌≡◌, Bool, true, false, List, ◌++◌, ℕ, ◌+◌, ◌*◌, ◌-◌, T, length, take, drop, Ok}
 use Rattle.rules.specs.Descriptions.{Sheet, good, read}
 use Rattle.rules.specs.Tables.{Inside, emptied, total}
 use Rattle.rules.specs.Closed.{Largest}
 use Rattle.rules.specs.Closing.{Rule, rules1, rules4, rules5, closing}
 use Rattle.rules.specs.Calls.{close_into}
-use Rattle.answers.specs.declared.Answer.{Answer}
-use Rattle.answers.specs.Answers.{outcome}
+use Rattle.answers.specs.Answers.{Answer, outcome}
 use Rattle.passes.specs.Passes.{Filled, Idles, Ready, Once}
 use Rattle.headers.specs.declared.Header.{Header}
-use Rattle.headers.specs.declared.HeaderFound.TheVariants.{Good}
 use Rattle.sheet.specs.Found.{description_found}
 use Rattle.by_board.specs.Found.{Indexed}
 use Rattle.moves.specs.Moves.{Marks, Mutual, Owed}
@@ -46,12 +44,12 @@ ClosedInto ws t l w a = (s : Sheet) → read ws ≡ good s → outcome a w ≡ c
 
 -- the header is that of a good description, and the table has as many cells as its boards need, whatever they hold
 pub record Measured (h : Header) (ws t : List ℕ) : Type 0 where
-  pub header : Good h ≡ description_found ws
+  pub header : Ok h ≡ description_found ws
   pub cells : length t ≡ h.boards * h.boards
 
 -- the header is that of a good description, and the table is well-formed for its boards
 pub record Admitted (h : Header) (ws t : List ℕ) : Type 0 where
-  pub header : Good h ≡ description_found ws
+  pub header : Ok h ≡ description_found ws
   pub ready : Ready h.boards t
 
 -- in every table inside t rules 1, 4 and 5 strike nothing, under the description that the words mean
@@ -77,7 +75,7 @@ pub record Listing (s : Sheet) (m t : List ℕ) : Type 0 where
 
 -- the header is that of a good description, and the words xs tell its kind lines by board
 pub record Told (h : Header) (ws xs : List ℕ) : Type 0 where
-  pub header : Good h ≡ description_found ws
+  pub header : Ok h ≡ description_found ws
   pub index : Indexed h.kinds.count (kind_words h ws) xs
 
 -- w is the largest closed table inside t, without an empty cell, and nothing is on the list

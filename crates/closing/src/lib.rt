@@ -1,17 +1,16 @@
 // Closing and opening under a description that was read: first the rules that need no second look (1, 4 and 5), then rounds of the others.
 #![tactic(auto)]
 
-ghost use Rattle.std.specs.Prelude.{◌≡◌, length};
+ghost use Rattle.std.specs.Prelude.{◌≡◌, length, Ok};
 ghost use Rattle.rules.specs.Calls.{opening, close};
-ghost use Rattle.answers.specs.Answers.{outcome};
-ghost use Rattle.headers.specs.declared.HeaderFound.TheVariants.{Good};
+ghost use Rattle.answers.specs.Answers.{told, outcome};
 ghost use Rattle.sheet.specs.Found.{description_found};
 ghost use Rattle.closing.specs.Closes.{Admitted, Measured, OnceUnder, ClosesUnder, ClosedInto, Steady, Under, Told, Listing, closes_listed};
 
+use answers::Answer;
 use answers::limits::HEADER_WORDS;
-use answers::refusals::CONTRADICTORY;
+use answers::refusals::{Fault, Refused};
 use answers::rooms::table_room;
-use answers::{Answer, refuse, succeed};
 use bits::NumberSet;
 use by_board::Index;
 use headers::Header;
@@ -43,7 +42,7 @@ fn close_again(h: Header, words: &[u16], cells: &mut [u8]) -> Swept
 
 // Tells the kind lines of a description by board, once for all closings by a list.
 pub fn tell_kinds(h: Header, words: &[u16]) -> Index
-    requires { Good h ≡ description_found words.now }
+    requires { Ok h ≡ description_found words.now }
     ensures { Told h words.now result }
 {
     let kinds_at = h.kinds.at;
@@ -90,19 +89,22 @@ pub fn close_cells(h: Header, words: &[u16], cells: &mut [u8]) -> Swept
 // came.
 fn close_into(h: Header, words: &[u16], cells: &mut [u8], table: &mut [u8]) -> Answer
     requires { Admitted h words.now cells.old × (length table.old ≡ length cells.old) }
-    ensures { ClosedInto words.now cells.old table.old table.new result }
+    ensures { ClosedInto words.now cells.old table.old table.new (told result) }
 {
     let Swept::Struck(struck) = close_cells(h, words, cells) else {
-        return refuse(CONTRADICTORY, 0);
+        return Err(Refused {
+            fault: Fault::Contradictory,
+            count: 0,
+        });
     };
     tables::copy(cells, table);
-    succeed(struck)
+    Ok(struck)
 }
 
 // Closes the table by a working copy of it, so that a refusal leaves the table as it came.
 fn close_by_copy(h: Header, words: &[u16], table: &mut [u8], cells: &mut [u8]) -> Answer
     requires { Admitted h words.now table.old × (length cells.old ≡ length table.old) }
-    ensures { outcome result table.new ≡ close words.now table.old }
+    ensures { outcome (told result) table.new ≡ close words.now table.old }
 {
     tables::copy(table, cells);
     close_into(h, words, cells, table)
@@ -112,7 +114,7 @@ fn close_by_copy(h: Header, words: &[u16], table: &mut [u8], cells: &mut [u8]) -
 // largest closed table has an empty cell, and then leaves the table as it came.
 pub fn close_table(h: Header, words: &[u16], table: &mut [u8]) -> Answer
     requires { Admitted h words.now table.old }
-    ensures { outcome result table.new ≡ close words.now table.old }
+    ensures { outcome (told result) table.new ≡ close words.now table.old }
 {
     let n = table.len();
     let mut room = table_room();
@@ -123,7 +125,7 @@ pub fn close_table(h: Header, words: &[u16], table: &mut [u8]) -> Answer
 // with 7 where the largest closed table has an empty cell, and then leaves the table as it came.
 pub fn open_table(h: Header, words: &[u16], table: &mut [u8]) -> Answer
     requires { Measured h words.now table.old }
-    ensures { outcome result table.new ≡ opening words.now table.old }
+    ensures { outcome (told result) table.new ≡ opening words.now table.old }
 {
     let n = table.len();
     let mut room = full_room();

@@ -4,9 +4,9 @@ use Rattle.closing.proofs.close_into.Goals as goal
 
 pub returns-in_default : goal.returns-in_default
 returns-in_default c =
-    into_emptied c.requires.0 c.args.table.now _ _ c.close_cells.ensures c.in_default.is c.refuse.ensures
+    into_emptied c.requires.0 c.args.table.now _ _ c.close_cells.ensures c.in_default.is
 
 pub returns : goal.returns
 returns c =
     into_struck c.requires.0 c.args.table.now _ _ c.close_cells.ensures
-    c.in-Struck.is c.copy.ensures c.succeed.ensures
+    c.in-Struck.is c.copy.ensures

@@ -24,7 +24,6 @@ use Rattle.rules.proofs.Largest.{closing_largest}
 use Rattle.rules.proofs.Arrangements.{arrangement_kept, arrangement_whole}
 use Rattle.rules.proofs.Calls.{total_least, arranged_arrangement}
 use Rattle.rules.proofs.Called.{by_test, check_good}
-use Rattle.answers.specs.declared.Answer.{Answer}
 use Rattle.answers.specs.Answers.{answered, outcome}
 use Rattle.headers.specs.declared.Header.{Header}
 use Rattle.sweeps.specs.declared.Swept.{Swept}
@@ -101,23 +100,21 @@ module _ (ws t : List ℕ) (s : Sheet) (means : read ws ≡ good s) (table : Tab
 
 -- the same of a table that was admitted
 module _ {h : Header} {ws t : List ℕ} (admitted : Admitted h ws t) where
-  pub check_several : {a : Answer} {b : Bool} → b ≡ all_single t → not b ≡ true → a ≡ answered 10 0 → outcome a t ≡ check ws t
-  check_several {a} {b} said e f =
+  pub check_several : {b : Bool} → b ≡ all_single t → not b ≡ true → outcome (answered 10 0) t ≡ check ws t
+  check_several {b} said e =
       let d = admitted_means admitted in
-      ap (λ (a : Answer). outcome a t) f ∙ check_not ws t d.0 d.1 d.2 (not_single ws t d.0 d.1 d.2 (sym said ∙ not-true b e))
+      check_not ws t d.0 d.1 d.2 (not_single ws t d.0 d.1 d.2 (sym said ∙ not-true b e))
 
   -- whose cells are single, and whose copy u was closed to w
   module _ {u : List ℕ} (copy : u ≡ t) (single : true ≡ all_single t) (w : List ℕ) (r : Swept) (closed : ClosesUnder ws u w r) where
-    pub check_emptied : {a : Answer} → r ≡ Emptied → a ≡ answered 10 0 → outcome a t ≡ check ws t
-    check_emptied e f =
+    pub check_emptied : r ≡ Emptied → outcome (answered 10 0) t ≡ check ws t
+    check_emptied e =
         let d = admitted_closes admitted copy w r closed in
-        ap (λ (a : Answer). outcome a t) f
-        ∙ check_not ws t d.0 d.1 d.2 (not_emptied ws t d.0 d.1 d.2 (subst (closes d.0 t w) e d.3))
+        check_not ws t d.0 d.1 d.2 (not_emptied ws t d.0 d.1 d.2 (subst (closes d.0 t w) e d.3))
 
-    pub check_closed : {a : Answer} {n : ℕ} → r ≡ Struck n → a ≡ answered 0 0 → outcome a t ≡ check ws t
-    check_closed e f =
+    pub check_closed : {n : ℕ} → r ≡ Struck n → outcome (answered 0 0) t ≡ check ws t
+    check_closed e =
         let d = admitted_closes admitted copy w r closed in
         let k = subst (closes d.0 t w) e d.3 in
-        ap (λ (a : Answer). outcome a t) f
-        ∙ check_arranged ws t d.0 d.1 d.2
+        check_arranged ws t d.0 d.1 d.2
         (closed_arranged ws t d.0 d.1 d.2 (sym single) (same_closed ws t d.0 d.1 d.2 k (single_unstruck d.2 (sym single) k)))

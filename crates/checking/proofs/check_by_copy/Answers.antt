@@ -10,8 +10,8 @@ close_cells-requires c =
 
 pub returns-in_default : goal.returns-in_default
 returns-in_default c =
-    check_emptied c.requires.0 c.copy.ensures c.requires.2 _ _ c.close_cells.ensures c.in_default.is c.refuse.ensures
+    check_emptied c.requires.0 c.copy.ensures c.requires.2 _ _ c.close_cells.ensures c.in_default.is
 
 pub returns : goal.returns
 returns c =
-    check_closed c.requires.0 c.copy.ensures c.requires.2 _ _ c.close_cells.ensures c.in-Struck.is c.succeed.ensures
+    check_closed c.requires.0 c.copy.ensures c.requires.2 _ _ c.close_cells.ensures c.in-Struck.is

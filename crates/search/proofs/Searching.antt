@@ -18,7 +18,6 @@ use Rattle.rules.proofs.Largest.{closing_largest, largest_unique}
 use Rattle.rules.proofs.Search.{cap_in}
 use Rattle.rules.proofs.Called.{search_good}
 use Rattle.passes.specs.Passes.{Filled}
-use Rattle.answers.specs.declared.Answer.{Answer}
 use Rattle.answers.specs.Answers.{answered, outcome}
 use Rattle.headers.specs.declared.Header.{Header}
 use Rattle.sweeps.specs.declared.Swept.{Swept}
@@ -73,10 +72,10 @@ first_whole s u first e closed =
 
 module _ {h : Header} {ws t u : List ℕ} (admitted : Admitted h ws t) (copy : u ≡ t) (first : List ℕ) (r : Swept) (closed : ClosesUnder ws u first r) where
   module _ (ord : List ℕ) (b : ℕ) where
-    pub search_emptied : {a : Answer} → r ≡ Emptied → a ≡ answered 8 0 → outcome a t ≡ searching ord ws t b
-    search_emptied e f =
+    pub search_emptied : r ≡ Emptied → outcome (answered 8 0) t ≡ searching ord ws t b
+    search_emptied e =
         let d = admitted_closes admitted copy first r closed in
-        ap (λ (a : Answer). outcome a t) f ∙ search_clash ord ws t b d.0 d.1 d.2 (subst (closes d.0 t first) e d.3)
+        search_clash ord ws t b d.0 d.1 d.2 (subst (closes d.0 t first) e d.3)
 
     pub search_struck : {n : ℕ} → r ≡ Struck n → (w : List ℕ) (e : Ended) → Under ws (λ s. ends (choose (closing s) ord (places s.boards) first) b w e)
         → concluded t b w e ≡ searching ord ws t b
@@ -87,15 +86,15 @@ module _ {h : Header} {ws t u : List ℕ} (admitted : Admitted h ws t) (copy : u
 
 -- ---- the answer, by how the tries ended
 
-module _ (t : List ℕ) (b : ℕ) (w : List ℕ) {e : Ended} {a : Answer} where
-  pub concludes_arranged : {x : List ℕ} {n : ℕ} → e ≡ Arranged n → x ≡ w → a ≡ answered 0 n → outcome a x ≡ concluded t b w e
-  concludes_arranged {x} {n} f g h = ap (λ (a : Answer). outcome a x) h ∙ ap (succeed n) g ∙ ap (concluded t b w) (sym f)
+module _ (t : List ℕ) (b : ℕ) (w : List ℕ) {e : Ended} where
+  pub concludes_arranged : {x : List ℕ} {n : ℕ} → e ≡ Arranged n → x ≡ w → outcome (answered 0 n) x ≡ concluded t b w e
+  concludes_arranged {x} {n} f g = ap (succeed n) g ∙ ap (concluded t b w) (sym f)
 
-  pub concludes_nowhere : {n : ℕ} → e ≡ Nowhere n → a ≡ answered 8 n → outcome a t ≡ concluded t b w e
-  concludes_nowhere f h = ap (λ (a : Answer). outcome a t) h ∙ ap (concluded t b w) (sym f)
+  pub concludes_nowhere : {n : ℕ} → e ≡ Nowhere n → outcome (answered 8 n) t ≡ concluded t b w e
+  concludes_nowhere f = ap (concluded t b w) (sym f)
 
-  pub concludes_ran_out : e ≡ RanOut → a ≡ answered 9 b → outcome a t ≡ concluded t b w e
-  concludes_ran_out f h = ap (λ (a : Answer). outcome a t) h ∙ ap (concluded t b w) (sym f)
+  pub concludes_ran_out : e ≡ RanOut → outcome (answered 9 b) t ≡ concluded t b w e
+  concludes_ran_out f = ap (concluded t b w) (sym f)
 
 -- ---- room for the choices
 

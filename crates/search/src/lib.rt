@@ -4,13 +4,13 @@
 ghost use Rattle.std.specs.Prelude.{◌≡◌, length};
 ghost use Rattle.rules.specs.Search.{Order};
 ghost use Rattle.rules.specs.Calls.{searching};
-ghost use Rattle.answers.specs.Answers.{outcome};
+ghost use Rattle.answers.specs.Answers.{told, outcome};
 ghost use Rattle.closing.specs.Closes.{Admitted};
 ghost use Rattle.search.specs.Rooms.{concluded, Roomy};
 
-use answers::refusals::{NOWHERE, RAN_OUT};
+use answers::Answer;
+use answers::refusals::{Fault, Refused};
 use answers::rooms::{pairs_room, table_room};
-use answers::{Answer, refuse, succeed};
 use bits::NumberSet;
 use choosing::Ended;
 use headers::Header;
@@ -20,15 +20,21 @@ use sweeps::Swept;
 // Turns the end of a search into its answer. On success the arrangement replaces the lent table.
 fn conclude(ended: Ended, budget: u32, cells: &[u8], table: &mut [u8]) -> Answer
     requires { length table.old ≡ length cells.now }
-    ensures { outcome result table.new ≡ concluded table.old budget cells.now ended }
+    ensures { outcome (told result) table.new ≡ concluded table.old budget cells.now ended }
 {
     match ended {
         Ended::Arranged(tries) => {
             tables::copy(cells, table);
-            succeed(tries)
+            Ok(tries)
         }
-        Ended::Nowhere(tries) => refuse(NOWHERE, tries),
-        Ended::RanOut => refuse(RAN_OUT, budget),
+        Ended::Nowhere(tries) => Err(Refused {
+            fault: Fault::Nowhere,
+            count: tries,
+        }),
+        Ended::RanOut => Err(Refused {
+            fault: Fault::RanOut,
+            count: budget,
+        }),
     }
 }
 
@@ -45,11 +51,11 @@ fn search_in_room(
     marks: &mut [NumberSet],
 ) -> Answer
     requires { Roomy h words.now order.now table.old first.old choices.old cells.old marks.old }
-    ensures { outcome result table.new ≡ searching order.now words.now table.old budget }
+    ensures { outcome (told result) table.new ≡ searching order.now words.now table.old budget }
 {
     tables::copy(table, first);
     let Swept::Struck(_) = closing::close_cells(h, words, first) else {
-        return refuse(NOWHERE, 0);
+        return conclude(Ended::Nowhere(0), budget, cells, table);
     };
     let found = closing::tell_kinds(h, words);
     tables::copy(first, cells);
@@ -64,7 +70,7 @@ fn search_in_room(
 // came.
 pub fn search_table(h: Header, words: &[u16], order: &[u8], budget: u32, table: &mut [u8]) -> Answer
     requires { Admitted h words.now table.old × Order order.now }
-    ensures { outcome result table.new ≡ searching order.now words.now table.old budget }
+    ensures { outcome (told result) table.new ≡ searching order.now words.now table.old budget }
 {
     let n = table.len();
     let mut first = table_room();

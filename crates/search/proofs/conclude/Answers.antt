@@ -4,12 +4,12 @@ use Rattle.search.proofs.conclude.Goals as goal
 
 pub returns-in-Arranged : goal.returns-in-Arranged
 returns-in-Arranged c =
-    concludes_arranged c.args.table.now c.args.budget c.args.cells.now c.in-Arranged.is c.copy.ensures c.succeed.ensures
+    concludes_arranged c.args.table.now c.args.budget c.args.cells.now c.in-Arranged.is c.copy.ensures
 
 pub returns-in-Nowhere : goal.returns-in-Nowhere
 returns-in-Nowhere c =
-    concludes_nowhere c.args.table.now c.args.budget c.args.cells.now c.in-Nowhere.is c.refuse.ensures
+    concludes_nowhere c.args.table.now c.args.budget c.args.cells.now c.in-Nowhere.is
 
 pub returns-in-RanOut : goal.returns-in-RanOut
 returns-in-RanOut c =
-    concludes_ran_out c.args.table.now c.args.budget c.args.cells.now c.in-RanOut.is c.refuse-in-RanOut.ensures
+    concludes_ran_out c.args.table.now c.args.budget c.args.cells.now c.in-RanOut.is

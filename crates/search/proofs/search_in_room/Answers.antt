@@ -8,9 +8,12 @@ use Rattle.search.proofs.search_in_room.Goals as goal
 pub close_cells-requires : goal.close_cells-requires
 close_cells-requires c = subst (Admitted c.args.h c.args.words.now) (sym c.copy.ensures) c.requires.admitted
 
+pub conclude-requires : goal.conclude-requires
+conclude-requires c = sym c.requires.cells
+
 pub returns-in_default : goal.returns-in_default
 returns-in_default c =
-    search_emptied c.requires.admitted c.copy.ensures _ _ c.close_cells.ensures c.args.order.now c.args.budget c.in_default.is c.refuse.ensures
+    c.conclude.ensures ∙ search_emptied c.requires.admitted c.copy.ensures _ _ c.close_cells.ensures c.args.order.now c.args.budget c.in_default.is
 
 pub tell_kinds-found-requires : goal.tell_kinds-found-requires
 tell_kinds-found-requires c = c.requires.admitted.header
@@ -26,12 +29,12 @@ choose-ended-requires c =
       cells = c.copy-2.ensures;
     }
 
-pub conclude-requires : goal.conclude-requires
-conclude-requires c = sym (c.choose-ended.auto.cells ∙ c.copy-2.auto.to ∙ c.requires.cells)
+pub conclude-requires-2 : goal.conclude-requires-2
+conclude-requires-2 c = sym (c.choose-ended.auto.cells ∙ c.copy-2.auto.to ∙ c.requires.cells)
 
 pub returns : goal.returns
 returns c =
     let choose = c.choose-ended in
-    c.conclude.ensures
+    c.conclude-2.ensures
     ∙ search_struck c.requires.admitted c.copy.ensures _ _ c.close_cells.ensures c.args.order.now c.args.budget c.in-Struck.is
     choose.new.cells choose.result choose.ensures

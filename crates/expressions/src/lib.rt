@@ -2,25 +2,26 @@
 #![tactic(auto)]
 
 ghost use Rattle.std.specs.Prelude.{◌≡◌, ◌^◌, ◌/◌, ◌%◌, ◌≤◌, ◌<◌, nat_eq, length};
-ghost use Rattle.rules.specs.Relations.{set_limit};
 ghost use Rattle.rules.specs.Descriptions.{most_expression_words};
 ghost use Rattle.rules.specs.Expressions.{relation, codes, code, expression};
 ghost use Rattle.expressions.specs.Codes.{operands, unary, binary, Counts};
 ghost use Rattle.expressions.specs.Found.{expression_found, scan_found};
 
+use relations::RelationSet;
+
 // How many codes there are.
 const CODES: usize = 8;
 
 // The set that each code stands for; nothing for an operator.
-const SETS: [u8; CODES] = [
-    relations::E,
-    relations::A,
-    relations::B,
-    relations::S,
-    0, // union
-    0, // intersection
-    0, // complement
-    0, // inverse
+const SETS: [RelationSet; CODES] = [
+    RelationSet::E,
+    RelationSet::A,
+    RelationSet::B,
+    RelationSet::S,
+    RelationSet::EMPTY, // union
+    RelationSet::EMPTY, // intersection
+    RelationSet::EMPTY, // complement
+    RelationSet::EMPTY, // inverse
 ];
 
 // The codes of the operators: union and intersection have two operands, complement and inverse one.
@@ -46,7 +47,7 @@ fn among(some: u32, word: usize) -> bool
 }
 
 // The set that a code without operands stands for.
-fn set_of(word: usize) -> u8
+fn set_of(word: usize) -> RelationSet
     requires { (word < length codes) × (operands (code word) ≡ 0) }
     ensures { code word ≡ relation result }
 {
@@ -54,32 +55,24 @@ fn set_of(word: usize) -> u8
 }
 
 // What an operator makes of its one operand.
-fn apply_one(word: usize, x: u8) -> u8
-    requires { (word < length codes) × (operands (code word) ≡ 1) × (x < set_limit) }
+fn apply_one(word: usize, x: RelationSet) -> RelationSet
+    requires { (word < length codes) × (operands (code word) ≡ 1) }
     ensures { result ≡ unary (code word) x }
 {
-    if word == COMPLEMENT {
-        relations::complement(x)
-    } else {
-        relations::converse(&relations::converse_table(), x)
-    }
+    if word == COMPLEMENT { !x } else { x.converse() }
 }
 
 // What an operator makes of its two operands.
-fn apply_two(word: usize, x: u8, y: u8) -> u8
-    requires { (word < length codes) × (operands (code word) ≡ 2) × (x < set_limit) × (y < set_limit) }
+fn apply_two(word: usize, x: RelationSet, y: RelationSet) -> RelationSet
+    requires { (word < length codes) × (operands (code word) ≡ 2) }
     ensures { result ≡ binary (code word) x y }
 {
-    if word == UNION {
-        relations::join(x, y)
-    } else {
-        relations::meet(x, y)
-    }
+    if word == UNION { x | y } else { x & y }
 }
 
 // Reads the expression at the front of the words: an operator is followed by its operands, each a whole expression. Gives its set and the number of words after it;
 // or, where there is none, the number of words from the first that goes on with none. Where an operand fails, the whole does.
-pub fn evaluate(words: &[u16]) -> Result<(u8, usize), usize>
+pub fn evaluate(words: &[u16]) -> Result<(RelationSet, usize), usize>
     requires { length words.now ≤ most_expression_words }
     ensures { result ≡ expression_found (expression words.now) }
 {

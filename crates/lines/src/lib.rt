@@ -7,13 +7,14 @@ ghost use Rattle.lines.specs.Found.{relation_told, FrontTells, GoodLine, Finds};
 
 use answers::limits::{LINE_WORDS, MOST_EXPRESSION_WORDS};
 use answers::refusals::{Fault, Refusal};
+use relations::RelationSet;
 
 // A relation line: the relation of p to q is one of the set `allowed`. So many words stand after it.
 #[derive(Clone, Copy, Debug, PartialEq, Eq)]
 pub struct RelationLine {
     pub p: usize,
     pub q: usize,
-    pub allowed: u8,
+    pub allowed: RelationSet,
     pub rest: usize,
 }
 

@@ -58,7 +58,6 @@ apply_one-requires t c =
     let listed : c.from-word.result < length codes = omega tested in (
       listed,
       takes_one c.from-word.result listed c.among.ensures (not-false _ c.if-not-among.false-raw) c.among-2.ensures c.if-among.true,
-      (evaluation.operand _ _ _ (sym c.in_ok-x.was ∙ c.evaluate.ensures)).small,
     )
 
 pub returns-then-among : goal.returns-then-among
@@ -98,8 +97,6 @@ apply_two-requires t c =
     let listed : c.from-word.result < length codes = omega tested in (
       listed,
       takes_two c.from-word.result listed c.among.ensures (not-false _ c.if-not-among.false-raw) c.among-2.ensures c.if-among.false,
-      (evaluation.operand _ _ _ (sym c.in_ok-x.was ∙ c.evaluate.ensures)).small,
-      (evaluation.operand _ _ _ (sym c.in_ok-y.was ∙ c.evaluate-2.ensures)).small,
     )
 
 pub returns : goal.returns

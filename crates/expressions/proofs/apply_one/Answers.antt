@@ -5,7 +5,7 @@ use Rattle.expressions.proofs.apply_one.Goals as goal
 
 pub returns-then-word-eq-COMPLEMENT : goal.returns-then-word-eq-COMPLEMENT
 unfolding codes code
-returns-then-word-eq-COMPLEMENT c = rw c.if-word-eq-COMPLEMENT.true c.complement.ensures
+returns-then-word-eq-COMPLEMENT c = rw c.if-word-eq-COMPLEMENT.true c.not.ensures
 
 pub returns-else-word-eq-COMPLEMENT : goal.returns-else-word-eq-COMPLEMENT
 unfolding codes code

@@ -58,6 +58,13 @@ module _ {X : Type 0} {v : ℕ} {R : Strikes} (s : Striking v R) {f : List X →
         struck = λ ls e. subst (λ (done : List X). R (flat_map (f ls) done) t a t a) (sym (walk_none line count ws)) (s.none (f ls) h);
       }
 
+  -- with the lines passed counted: none of them, and one more
+  pub along_none : Table v t → Along R f line count ws t a t a 0 (count - 0)
+  along_none h = let e : count ≡ count - 0 = omega arith in subst (λ (n : ℕ). Along R f line count ws t a t a 0 n) e (along_start h)
+
+  pub along_one : (n : ℕ) {u : List ℕ} {b at : ℕ} → Along R f line count ws t a u b at (count - n - 1) → Along R f line count ws t a u b at (count - (n + 1))
+  along_one n {u} {b} {at} p = let e : count - n - 1 ≡ count - (n + 1) = omega arith in subst (λ (k : ℕ). Along R f line count ws t a u b at k) e p
+
   module _ {u : List ℕ} {b at left : ℕ} (along : Along R f line count ws t a u b at left) where
     pub along_kept : (has : SomeFill line count ws) → Kept v (flat_map (f has.0) along.walk.done) t a u b
     along_kept has = s.kept (along.struck has.0 has.1)

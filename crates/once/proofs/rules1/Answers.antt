@@ -1,6 +1,5 @@
 -- `rules1` meets its contract: each turn is one strike by a bound that stays. The measure is the boards left. Assumes nothing.
 use native.Mathlib.Omega.{arith}
-use Rattle.rules.specs.Relations.{relations}
 use Rattle.rules.specs.Closing.{rules1}
 use Rattle.passes.proofs.Passes.{once_start, once_whole, place_few, ready_place, ready_kept, kept_few}
 use Rattle.once.proofs.Selves.{itself, itself_turn}
@@ -16,10 +15,7 @@ pub overflow_add-k : goal.overflow_add-k
 overflow_add-k c = record { fits = omega (arith, place_few c.requires.boards c.loop-p-test.true c.loop-p-test.true) }
 
 pub narrow-struck-requires : goal.narrow-struck-requires
-unfolding relations
-narrow-struck-requires c =
-    let table = ready_kept c.requires c.loop-p.invariant.1.kept in
-    (ready_place table c.loop-p-test.true c.loop-p-test.true, table.table.small _, omega arith)
+narrow-struck-requires c = ready_place (ready_kept c.requires c.loop-p.invariant.1.kept) c.loop-p-test.true c.loop-p-test.true
 
 pub loop-p-smaller : goal.loop-p-smaller
 loop-p-smaller c = omega arith

@@ -1,2 +1,3 @@
--- What the contract of this crate determines.
+-- The law behind the functions of this crate, and what their contracts determine.
+pub mod Parts
 pub mod Determined

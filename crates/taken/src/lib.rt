@@ -1,4 +1,4 @@
-// What taking the words of a typed line answers, and the words that every line begins with.
+// Puts the words of typed lines: the three that every line begins with, and any others.
 #![tactic(auto)]
 
 ghost use Rattle.std.specs.Prelude.{◌≡◌, ◌+◌, ◌≤◌, length};
@@ -8,30 +8,20 @@ ghost use Rattle.taken.specs.Lines.{Begun};
 // The words of a line before its expression or its ways.
 const LINE_WORDS: usize = 3;
 
-// Whether the line is well-formed, and the place after its words.
-#[derive(Drop)]
-pub struct Taken {
-    pub good: bool,
-    pub next: usize,
-}
-
 // Puts the first three words of a line from a place on, and answers the next place.
 pub fn put_start(words: &mut [u16], at: usize, first: u16, second: u16, count: u16) -> usize
     requires { at + 3 ≤ length words.old }
     ensures { Begun words.old at first second count words.new result }
 {
-    words[at] = first;
-    words[at + 1] = second;
-    words[at + 2] = count;
+    put_words(words, at, &[first, second, count]);
     at + LINE_WORDS
 }
 
 // Puts some words from a place on.
+#[tactic(auto, using(crate::proofs::Parts::part_sets))]
 pub fn put_words(room: &mut [u16], at: usize, words: &[u16])
     requires { at + length words.now ≤ length room.old }
     ensures { room.new ≡ sets room.old at words.now }
 {
-    for i in 0..words.len() {
-        room[at + i] = words[i];
-    }
+    room[at..at + words.len()].copy_from_slice(words);
 }

@@ -1,17 +1,21 @@
 -- Digits passed one after the other: they are the digits of the number so far. Assumes nothing.
 use mathlib.Core.Path.{◌≡◌, refl, sym, ap, ◌∙◌}
 use mathlib.Core.Bool.{Bool, true, false, ◌&&◌}
+use mathlib.Core.Logic.{inl, inr}
 use mathlib.Core.List.{List, [], ◌∷◌, ◌++◌}
 use Prim.Native.Nat.{ℕ, zero, suc, ◌+◌, ◌*◌, ◌≤◌, ◌<◌}
 use native.Mathlib.Numerals.{add-one}
 use native.Mathlib.Omega.{arith}
-use borrow.Author.Tests.{lt-ltb, eqb-false}
-use lib.Dec.{ltb, eqb, ltb→lt, eqb→eq}
+use borrow.Author.Tests.{lt-ltb, leb-true, leb-false, eqb-false}
+use lib.Dec.{ltb, leb, eqb, ltb→lt, eqb→eq}
 use lib.ListN.{length, get_or, take}
 use lib.Seq.{take-suc, take_all}
 use Rattle.puts.specs.Decimals.{decimal}
 use Rattle.puts.proofs.Decimals.{decimal_one, decimal_five}
-use Rattle.typed.specs.Symbols.{number, unknown, most_number, value, number_of}
+use Rattle.std.specs.Prelude.{Option, Some, None, Result, Ok, Err}
+use Rattle.std.specs.Char.{IsDigitOf}
+use Rattle.std.specs.Result.{OkIff, result_ok}
+use Rattle.typed.specs.Symbols.{Symbol, number, unknown, most_number, if_number, value, number_of}
 use Rattle.spelled.proofs.Numbers.{decimal_next, decimal_digit, decimal_some, decimal_lead, value_decimal, number_of_decimal, number_of_none}
 use Rattle.rules.proofs.Tests.{true_T, T-and_left, T-and_right}
 use Rattle.symbols.specs.Tokens.{padded}
@@ -90,6 +94,20 @@ next_so_far run (suc i) n d p s h l e =
     more : 10 * n + d ≤ most (suc i + 1)
     more = omega (arith, s.small, ap most (add-one (suc i)))
 
+-- a digit of a number in decimal, as `char` has it
+pub decimal_char : (b d : ℕ) → IsDigitOf b d → d < 10 → b ≡ 48 + d
+decimal_char b d (inl p) h = sym p.1
+decimal_char b d (inr (inl p)) h = let z : ⊥ = omega (arith, p.0, p.1) in absurd z
+decimal_char b d (inr (inr p)) h = let z : ⊥ = omega (arith, p.0, p.1) in absurd z
+
+-- a byte that is not between the digits
+pub outside : (b : ℕ) → (48 ≤ b → b ≤ 57 → ⊥) → 48 ≤ b → 57 < b
+outside b f h = go (leb b 57) refl
+  where
+    go : (t : Bool) → leb b 57 ≡ t → 57 < b
+    go true e = absurd (f h (leb-true _ _ e))
+    go false e = leb-false _ _ e
+
 -- ---- what a run spells
 
 module _ (run : List ℕ) where
@@ -126,3 +144,18 @@ module _ (run : List ℕ) where
 
     pub spelled : n ≤ most_number → number_of run ≡ number n
     spelled m = ap number_of all ∙ number_of_decimal n m
+
+  -- ---- the number that a run spells, if any
+
+  number_in : Symbol → Option ℕ
+  number_in s = if_number s Some None
+
+  pub no_number : number_of run ≡ unknown → None ≡ if_number (number_of run) Some None
+  unfolding number_in
+  no_number e = sym (ap number_in e)
+
+  module _ (i n : ℕ) (some : 1 ≤ length run) (l : length run ≤ i) (s : SoFar run i n) where
+    pub one_number : {E : Type 0} (r : Result ℕ E) → OkIff r (n < 65536) n → result_ok r ≡ if_number (number_of run) Some None
+    unfolding number_in
+    one_number (Ok m) p = ap Some p.1 ∙ sym (ap number_in (spelled i n some l s (omega (arith, p.0))))
+    one_number (Err e) p = sym (ap number_in (too_large i n some l s (omega (arith, p))))

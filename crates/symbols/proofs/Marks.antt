@@ -1,50 +1,27 @@
--- The symbol with a number. Assumes nothing.
-use mathlib.Core.Path.{◌≡◌, refl, sym, ap}
-use Prim.Native.Nat.{ℕ, ◌<◌}
-use native.Mathlib.Omega.{arith}
-use Rattle.rules.proofs.Tests.{clash}
+-- The symbol that stands so in the code. Assumes nothing.
+use mathlib.Core.Path.{◌≡◌, refl, sym, ap, ◌∙◌}
 use Rattle.typed.specs.Symbols.{Symbol, boards, colon, left_paren, right_paren, unknown, word, number}
 use Rattle.spelled.proofs.Symbols.{Small}
-use Rattle.symbols.specs.Tokens.{mark, no_symbol}
+use Rattle.symbols.specs.declared.Symbol.{Symbol as Mark}
+use Rattle.symbols.specs.Tokens.{mark, told}
 
--- P holds of the symbol with this number
-abbrev pub OfSymbol : ℕ → (Symbol → Type 0) → Type 0
-OfSymbol n P = (s : Symbol) → Small s → n ≡ mark s → P s
+-- each symbol stands for itself alone
+pub told_mark : (s : Symbol) → told (mark s) ≡ s
+told_mark boards = refl
+told_mark colon = refl
+told_mark left_paren = refl
+told_mark right_paren = refl
+told_mark unknown = refl
+told_mark (word k) = refl
+told_mark (number n) = refl
 
-module _ (n : ℕ) where
-  pub number_only : n < 65536 → OfSymbol n (λ s. s ≡ number n)
-  number_only h boards t q = clash (omega arith)
-  number_only h colon t q = clash (omega arith)
-  number_only h left_paren t q = clash (omega arith)
-  number_only h right_paren t q = clash (omega arith)
-  number_only h unknown t q = clash (omega arith)
-  number_only h (word k) t q = clash (omega arith)
-  number_only h (number m) t q = ap number (sym q)
+pub mark_one : (s t : Symbol) → mark s ≡ mark t → s ≡ t
+mark_one s t e = sym (told_mark s) ∙ ap told e ∙ told_mark t
 
-  pub left_only : n ≡ 65538 → OfSymbol n (λ s. s ≡ left_paren)
-  left_only h boards t q = clash (omega arith)
-  left_only h colon t q = clash (omega arith)
-  left_only h left_paren t q = refl
-  left_only h right_paren t q = clash (omega arith)
-  left_only h unknown t q = clash (omega arith)
-  left_only h (word k) t q = clash (omega arith)
-  left_only h (number m) t q = clash (omega arith)
+-- P holds of the symbol that stands so
+abbrev pub OfSymbol : Mark → (Symbol → Type 0) → Type 0
+OfSymbol x P = (s : Symbol) → Small s → x ≡ mark s → P s
 
-  pub right_only : n ≡ 65539 → OfSymbol n (λ s. s ≡ right_paren)
-  right_only h boards t q = clash (omega arith)
-  right_only h colon t q = clash (omega arith)
-  right_only h left_paren t q = clash (omega arith)
-  right_only h right_paren t q = refl
-  right_only h unknown t q = clash (omega arith)
-  right_only h (word k) t q = clash (omega arith)
-  right_only h (number m) t q = clash (omega arith)
-
-  -- no symbol has the number where there is none
-  pub no_mark : n ≡ no_symbol → OfSymbol n (λ s. ⊥)
-  no_mark h boards t q = omega arith
-  no_mark h colon t q = omega arith
-  no_mark h left_paren t q = omega arith
-  no_mark h right_paren t q = omega arith
-  no_mark h unknown t q = omega arith
-  no_mark h (word k) t q = omega arith
-  no_mark h (number m) t q = omega arith
+-- that is the only one
+pub only : (t : Symbol) (x : Mark) → x ≡ mark t → OfSymbol x (λ s. s ≡ t)
+only t x e s h q = mark_one s t (sym q ∙ e)

@@ -5,15 +5,16 @@ use Prim.Native.Nat.{ℕ, ◌+◌, ◌-◌, ◌≤◌, ◌<◌}
 use native.Mathlib.Omega.{arith}
 use lib.ListN.{length, drop, length-append, length-drop}
 use lib.Seq.{drop_at, drop-drop}
+use Rattle.std.specs.Prelude.{Some, None}
 use Rattle.typed.specs.Symbols.{Symbol, blank, spelling, Front, blanks, front, front_of, symbols}
 use Rattle.spelled.proofs.Symbols.{Begins, space, spelt, strange, front_of_begins, begins_shorter, Small, front_small, after, symbols_step}
 use Rattle.symbols.specs.declared.Token.{Token}
-use Rattle.symbols.specs.Tokens.{mark, no_symbol, token_of, token}
+use Rattle.symbols.specs.Tokens.{mark, token_of, token}
 
 -- what a token says of the symbols from its place on
 pub data Stepped (line : List ℕ) (at : ℕ) (t : Token) : Type 0 where
-  ends : t.symbol ≡ no_symbol → symbols (drop at line) ≡ [] → Stepped line at t
-  steps : (s : Symbol) → Small s → t.symbol ≡ mark s → symbols (drop at line) ≡ s ∷ symbols (drop t.next line) → at < t.next → t.next ≤ length line
+  ends : t.symbol ≡ None → symbols (drop at line) ≡ [] → Stepped line at t
+  steps : (s : Symbol) → Small s → t.symbol ≡ Some (mark s) → symbols (drop at line) ≡ s ∷ symbols (drop t.next line) → at < t.next → t.next ≤ length line
       → Stepped line at t
 
 -- what is left after a symbol ends the bytes

@@ -1,67 +1,41 @@
 // The symbols of a typed line, one after the other.
 #![tactic(auto)]
 
-ghost use Rattle.std.specs.Prelude.{◌≡◌, ◌≤◌, length};
-ghost use Rattle.typed.specs.Symbols.{equal_bytes, number_of, symbol_of, parts};
-ghost use Rattle.symbols.specs.Tokens.{mark, token, Digit, padded, Skipped, RunEnd};
+ghost use Rattle.std.specs.Prelude.{◌≡◌, ◌≤◌, Some, None, not, nat_eq, length, map, position};
+ghost use Rattle.std.specs.List.{prefix_len};
+ghost use Rattle.std.specs.Str.{bytes_eq};
+ghost use Rattle.typed.specs.Symbols.{blank, if_number, number_of, symbol_of, parts};
+ghost use Rattle.symbols.specs.Tokens.{mark, token, padded};
 
-// A symbol is a number: a number that was typed is itself, and all others are above those.
-pub const BOARDS: u32 = 65536;
-
-pub const COLON: u32 = 65537;
-
-pub const LEFT_PAREN: u32 = 65538;
-
-pub const RIGHT_PAREN: u32 = 65539;
-
-// A run of bytes that is neither a word nor a number.
-pub const UNKNOWN: u32 = 65540;
-
-// There is no symbol: the line ends.
-pub const NO_SYMBOL: u32 = 65541;
-
-// The word for code 0 of an expression; those for the other codes follow.
-pub const WORDS: u32 = 65542;
-
-// The largest number that may be typed.
-const MOST_NUMBER: u32 = 65535;
-
-// The digits of the largest number.
+// The digits of the largest number that may be typed.
 const MOST_DIGITS: usize = 5;
 
-// A symbol of a line, and the place after it.
-#[derive(Drop)]
+// The word that the first line begins with.
+const BOARDS: &[u8] = b"boards";
+
+// The words for the codes of an expression, in their order.
+const WORDS: [&[u8]; 8] = [
+    b"same", b"above", b"below", b"side", b"or", b"and", b"not", b"inv",
+];
+
+// A colon, a parenthesis, a word or a number; `Word` has the code of an expression that the word is for.
+#[derive(Clone, Copy, Debug, PartialEq, Eq)]
+pub enum Symbol {
+    Boards,
+    Colon,
+    LeftParen,
+    RightParen,
+    // A run of bytes that is neither a word nor a number.
+    Unknown,
+    Word(u16),
+    Number(u16),
+}
+
+// A symbol of a line, or none where the line ends, and the place after it.
+#[derive(Clone, Copy, Debug, PartialEq, Eq)]
 pub struct Token {
-    pub symbol: u32,
+    pub symbol: Option<Symbol>,
     pub next: usize,
-}
-
-// Whether two runs of bytes are the same.
-fn same(a: &[u8], b: &[u8]) -> bool
-    ensures { result ≡ equal_bytes a.now b.now }
-{
-    if a.len() != b.len() {
-        return false;
-    }
-    for i in 0..a.len() {
-        if a[i] != b[i] {
-            return false;
-        }
-    }
-    true
-}
-
-// The value of a decimal digit, or 10 where the byte is none.
-fn digit_of(byte: u8) -> u32
-    ensures { Digit byte result }
-{
-    if byte < b'0' {
-        return 10;
-    }
-    if b'9' < byte {
-        return 10;
-    }
-    (byte - b'0') as u32
 }
 
 // Whether a run of bytes has a leading zero.
@@ -69,117 +43,63 @@ fn digit_of(byte: u8) -> u32
 fn padded(run: &[u8]) -> bool
     ensures { result ≡ padded run.now }
 {
-    if run.len() <= 1 {
-        return false;
-    }
-    run[0] == b'0'
+    matches!(run, [b'0', _, ..])
 }
 
-// The number that a run of bytes spells, or `UNKNOWN`: at most five digits, the first of several no zero.
-fn number_of(run: &[u8]) -> u32
-    ensures { result ≡ mark (number_of run.now) }
+// The number that a run of bytes spells, if it spells one: at most five digits, the first of several no zero.
+fn number_of(run: &[u8]) -> Option<u16>
+    ensures { result ≡ if_number (number_of run.now) Some None }
 {
-    if run.len() == 0 {
-        return UNKNOWN;
-    }
-    if MOST_DIGITS < run.len() {
-        return UNKNOWN;
-    }
-    if padded(run) {
-        return UNKNOWN;
+    if run.is_empty() || MOST_DIGITS < run.len() || padded(run) {
+        return None;
     }
     let mut value: u32 = 0;
-    for i in 0..run.len() {
-        let digit = digit_of(run[i]);
-        if digit == 10 {
-            return UNKNOWN;
-        }
-        value = 10 * value + digit;
+    for &byte in run {
+        value = 10 * value + char::from(byte).to_digit(10)?;
     }
-    if MOST_NUMBER < value {
-        return UNKNOWN;
-    }
-    value
+    u16::try_from(value).ok()
+}
+
+// The place of a run of bytes among some words.
+fn place_among(words: &[&[u8]], run: &[u8]) -> Option<usize>
+    ensures { result ≡ position (λ w. bytes_eq w run.now) (map (λ w. w.now) words.now) }
+{
+    words.iter().position(|word| *word == run)
 }
 
 // The symbol that a run of bytes spells.
-fn symbol_of(run: &[u8]) -> u32
+fn symbol_of(run: &[u8]) -> Symbol
     ensures { result ≡ mark (symbol_of run.now) }
 {
-    if same(b"boards", run) {
-        return BOARDS;
+    if run == BOARDS {
+        return Symbol::Boards;
     }
-    if same(b"same", run) {
-        return WORDS;
+    match place_among(&WORDS, run) {
+        Some(code) => Symbol::Word(code as u16),
+        None => number_of(run).map_or(Symbol::Unknown, Symbol::Number),
     }
-    if same(b"above", run) {
-        return WORDS + 1;
-    }
-    if same(b"below", run) {
-        return WORDS + 2;
-    }
-    if same(b"side", run) {
-        return WORDS + 3;
-    }
-    if same(b"or", run) {
-        return WORDS + 4;
-    }
-    if same(b"and", run) {
-        return WORDS + 5;
-    }
-    if same(b"not", run) {
-        return WORDS + 6;
-    }
-    if same(b"inv", run) {
-        return WORDS + 7;
-    }
-    number_of(run)
 }
 
 // Whether a word or a number ends before this byte.
+#[tactic(auto, unfolding(typed::specs::Symbols::parts))]
 fn parts(byte: u8) -> bool
     ensures { result ≡ parts byte }
 {
-    if byte == b' ' {
-        return true;
-    }
-    if byte == b':' {
-        return true;
-    }
-    if byte == b'(' {
-        return true;
-    }
-    byte == b')'
+    matches!(byte, b' ' | b':' | b'(' | b')')
 }
 
-// The place of the first byte from a place on that is no blank, or the end of the line.
-fn skip_blanks(line: &[u8], at: usize) -> usize
-    requires { at ≤ length line.now }
-    ensures { Skipped line.now at result }
+// How many blanks are at the front of some bytes.
+fn blanks(bytes: &[u8]) -> usize
+    ensures { result ≡ prefix_len (λ b. nat_eq b blank) bytes.now }
 {
-    let mut i = at;
-    while i < line.len() {
-        if line[i] != b' ' {
-            return i;
-        }
-        i += 1;
-    }
-    i
+    bytes.iter().take_while(|byte| **byte == b' ').count()
 }
 
-// The place where the word or number that begins at a place ends.
-fn run_end(line: &[u8], from: usize) -> usize
-    requires { from ≤ length line.now }
-    ensures { RunEnd line.now from result }
+// The length of the word or number that some bytes begin with.
+fn run_length(bytes: &[u8]) -> usize
+    ensures { result ≡ prefix_len (λ b. not (parts b)) bytes.now }
 {
-    let mut i = from;
-    while i < line.len() {
-        if parts(line[i]) {
-            return i;
-        }
-        i += 1;
-    }
-    i
+    bytes.iter().take_while(|byte| !parts(**byte)).count()
 }
 
 // The first symbol of a line from a place on, and the place after it.
@@ -187,35 +107,25 @@ pub fn symbol_at(line: &[u8], at: usize) -> Token
     requires { at ≤ length line.now }
     ensures { result ≡ token line.now at }
 {
-    let from = skip_blanks(line, at);
-    if from == line.len() {
-        return Token {
-            symbol: NO_SYMBOL,
+    let from = at + blanks(&line[at..]);
+    let single = |symbol: Symbol| Token {
+        symbol: Some(symbol),
+        next: from + 1,
+    };
+    match line.get(from) {
+        None => Token {
+            symbol: None,
             next: from,
-        };
-    }
-    let byte = line[from];
-    if byte == b':' {
-        return Token {
-            symbol: COLON,
-            next: from + 1,
-        };
-    }
-    if byte == b'(' {
-        return Token {
-            symbol: LEFT_PAREN,
-            next: from + 1,
-        };
-    }
-    if byte == b')' {
-        return Token {
-            symbol: RIGHT_PAREN,
-            next: from + 1,
-        };
-    }
-    let end = run_end(line, from);
-    Token {
-        symbol: symbol_of(&line[from..end]),
-        next: end,
+        },
+        Some(b':') => single(Symbol::Colon),
+        Some(b'(') => single(Symbol::LeftParen),
+        Some(b')') => single(Symbol::RightParen),
+        Some(_) => {
+            let end = from + run_length(&line[from..]);
+            Token {
+                symbol: Some(symbol_of(&line[from..end])),
+                next: end,
+            }
+        }
     }
 }

@@ -1,62 +1,45 @@
--- `number_of` meets its contract: the bytes passed are the digits of the number so far. The measure is the bytes left. Assumes nothing.
-use mathlib.Core.Path.{sym, ap, ◌∙◌}
+-- `number_of` meets its contract: the bytes passed are the digits of the number so far. Assumes nothing.
+use mathlib.Core.Path.{sym, ◌∙◌}
 use Prim.Native.Nat.{◌≤◌, ◌<◌}
 use native.Mathlib.Omega.{arith}
+use borrow.Author.Tests.{eqb-false}
 use lib.ListN.{length}
-use Rattle.symbols.specs.Tokens.{mark}
-use Rattle.symbols.proofs.Digits.{most_few, none_so_far, next_so_far, nothing_spelled, too_long, padded_none, no_digit, too_large, spelled}
+use Rattle.std.proofs.Common.{rules}
+use Rattle.symbols.proofs.Digits.{most_few, next_so_far, nothing_spelled, too_long, padded_none, no_digit, no_number, one_number, decimal_char, outside}
 use Rattle.symbols.proofs.number_of.Goals as goal
+use Rattle.symbols.proofs.number_of.Goals.{then-is_empty-via-then-is_empty, then-is_empty-via-else-is_empty+then-run-gt-MOST_DIGITS, then-is_empty-via-else-is_empty+else-run-gt-MOST_DIGITS+then-padded}
 
-pub returns-then-run-eq0 : goal.returns-then-run-eq0
-returns-then-run-eq0 c = sym (ap mark (nothing_spelled _ c.if-run-eq0.true))
-
-pub returns-then-run-gt-MOST_DIGITS : goal.returns-then-run-gt-MOST_DIGITS
-returns-then-run-gt-MOST_DIGITS c = sym (ap mark (too_long _ c.if-run-gt-MOST_DIGITS.true))
-
-pub returns-then-padded : goal.returns-then-padded
-returns-then-padded c = sym (ap mark (padded_none _ (sym c.padded.ensures ∙ c.if-padded.true)))
-
-pub loop-i-init : goal.loop-i-init
-loop-i-init c = none_so_far _
-
-pub bounds-run-i : goal.bounds-run-i
-bounds-run-i c = omega arith
-
-pub returns-then-digit-eq10 : goal.returns-then-digit-eq10
-returns-then-digit-eq10 c =
-    let loop = c.loop-i in
-    sym (ap mark (no_digit _ loop.i c.loop-i-test.true (c.digit_of-digit.ensures.none c.if-digit-eq10.true)))
+pub returns-then-is_empty : goal.returns-then-is_empty
+returns-then-is_empty c =
+    no_number _ (elim c.then-is_empty.branch [
+      | then-is_empty-via-then-is_empty w ↦ nothing_spelled _ (search rules)
+      | then-is_empty-via-else-is_empty+then-run-gt-MOST_DIGITS w ↦ too_long _ w.if-run-gt-MOST_DIGITS.true
+      | then-is_empty-via-else-is_empty+else-run-gt-MOST_DIGITS+then-padded w ↦ padded_none _ (sym w.padded.ensures ∙ w.if-padded.true)
+    ])
 
 pub overflow_mul-value : goal.overflow_mul-value
-overflow_mul-value c =
-    let loop = c.loop-i in
-    record { fits = omega (arith, loop.invariant.small, most_few loop.i (omega (arith, c.if-run-gt-MOST_DIGITS.false))) }
+overflow_mul-value c = record { fits = omega (arith, c.loop-byte.invariant.small, most_few c.loop-byte.byte-index (omega arith)) }
+
+pub returns-in_err-value : goal.returns-in_err-value
+returns-in_err-value c =
+    let cases = c.in_err-value.ensures.cases in
+    c.from_residual.ensures
+    ∙ no_number _ (no_digit _ c.loop-byte.byte-index c.loop-byte-test.true (outside _ (λ h l. let m = cases (omega arith) (omega arith) in omega arith)))
 
 pub overflow_add-value : goal.overflow_add-value
 overflow_add-value c =
-    let loop = c.loop-i in
-    record { fits = omega (arith, loop.invariant.small, c.digit_of-digit.ensures.small, most_few loop.i (omega (arith, c.if-run-gt-MOST_DIGITS.false))) }
+    record { fits = omega (arith, c.loop-byte.invariant.small, c.in_ok-value.ensures.value.0, c.in_ok-value.ensures.value.1, most_few c.loop-byte.byte-index (omega arith)) }
 
-pub loop-i-smaller : goal.loop-i-smaller
-loop-i-smaller c = omega arith
-
-pub loop-i-preserved : goal.loop-i-preserved
-loop-i-preserved c =
-    let loop = c.loop-i in
-    let digit = c.digit_of-digit in
-    let small : digit.result < 10 = omega (arith, digit.ensures.small, c.if-digit-eq10.false) in
-    next_so_far _ loop.i loop.value digit.result
+pub loop-byte-preserved : goal.loop-byte-preserved
+loop-byte-preserved c =
+    let value = c.in_ok-value.ensures.value in
+    let small : c.in_ok-value.field-0 < 10 = omega (arith, value.0, value.1) in
+    next_so_far _ c.loop-byte.byte-index c.loop-byte.value c.in_ok-value.field-0
     (sym c.padded.ensures ∙ c.if-padded.false)
-    loop.invariant c.loop-i-test.true small (digit.ensures.some small)
-
-pub returns-then-value-gt-MOST_NUMBER : goal.returns-then-value-gt-MOST_NUMBER
-returns-then-value-gt-MOST_NUMBER c =
-    let loop = c.loop-i in
-    let some : 1 ≤ length c.args.run.now = omega (arith, c.if-run-eq0.false) in
-    sym (ap mark (too_large _ loop.i loop.value some c.loop-i-test.false loop.invariant c.if-value-gt-MOST_NUMBER.true))
+    c.loop-byte.invariant c.loop-byte-test.true small (sym c.from.ensures ∙ decimal_char _ _ c.in_ok-value.ensures.cases small)
 
 pub returns : goal.returns
 returns c =
-    let loop = c.loop-i in
-    let some : 1 ≤ length c.args.run.now = omega (arith, c.if-run-eq0.false) in
-    sym (ap mark (spelled _ loop.i loop.value some c.loop-i-test.false loop.invariant c.if-value-gt-MOST_NUMBER.false))
+    let filled = eqb-false (length c.args.run.now) 0 (sym c.is_empty.ensures ∙ c.if-is_empty.false) in
+    let some : 1 ≤ length c.args.run.now = omega arith in
+    c.ok.ensures.value ∙ one_number _ c.loop-byte.byte-index c.loop-byte.value some c.loop-byte-test.false c.loop-byte.invariant c.try_from.result c.try_from.ensures

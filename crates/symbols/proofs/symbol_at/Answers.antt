@@ -1,31 +1,72 @@
 -- `symbol_at` meets its contract, by the byte that its symbol begins with. Assumes nothing.
-use mathlib.Core.Path.{ap, ◌∙◌}
-use Prim.Native.Nat.{ℕ, ◌<◌}
+use mathlib.Core.Path.{◌≡◌, sym, ap, ◌∙◌}
+use Prim.Native.Nat.{◌+◌}
 use native.Mathlib.Omega.{arith}
-use lib.ListN.{length}
-use Rattle.symbols.proofs.Fronts.{token_none, token_colon, token_left, token_right, token_run}
+use Rattle.std.specs.Prelude.{Some}
+use Rattle.std.proofs.Common.{rules}
+use Rattle.symbols.specs.declared.Symbol.{Symbol}
+use Rattle.symbols.specs.declared.Symbol.TheVariants.{Colon, LeftParen, RightParen}
+use Rattle.symbols.proofs.Fronts.{past_blanks, run_ends, token_none, token_colon, token_left, token_right, token_run}
 use Rattle.symbols.proofs.symbol_at.Goals as goal
 
-pub returns-then-from-line : goal.returns-then-from-line
-returns-then-from-line c = token_none _ _ _ c.skip_blanks-from.ensures c.if-from-line.true
+pub overflow_add-from : goal.overflow_add-from
+overflow_add-from c =
+    let s = past_blanks _ _ _ c.requires c.blanks.ensures in
+    record { fits = omega (arith, s.inside) }
 
-pub returns-then-byte-eq58 : goal.returns-then-byte-eq58
-returns-then-byte-eq58 c =
-    let h : c.skip_blanks-from.result < length c.args.line.now = omega (arith, c.skip_blanks-from.ensures.inside, c.if-from-line.false) in
-    token_colon _ _ _ c.skip_blanks-from.ensures h c.if-byte-eq58.true
+pub returns-in-None : goal.returns-in-None
+returns-in-None c =
+    let s = past_blanks _ _ _ c.requires c.blanks.ensures in
+    token_none _ _ _ s (omega (arith, s.inside, c.in-None.ensures.lookup.3))
 
-pub returns-then-byte-eq40 : goal.returns-then-byte-eq40
-returns-then-byte-eq40 c =
-    let h : c.skip_blanks-from.result < length c.args.line.now = omega (arith, c.skip_blanks-from.ensures.inside, c.if-from-line.false) in
-    token_left _ _ _ c.skip_blanks-from.ensures h c.if-byte-eq58.false c.if-byte-eq40.true
+pub returns-in-Some-eq58 : goal.returns-in-Some-eq58
+returns-in-Some-eq58 c =
+    let line = c.args.line.now in
+    let s = past_blanks line c.args.at c.blanks.result c.requires c.blanks.ensures in
+    let l = c.in-Some-eq58.ensures.lookup.3 in
+    let e : c.single.result ≡ record { symbol = Some Colon; next = c.args.at + c.blanks.result + 1 } = search rules in
+    e ∙ token_colon _ _ _ s l.0 (sym (l.1 0) ∙ c.in-Some-eq58.field-0-test)
 
-pub returns-then-byte-eq41 : goal.returns-then-byte-eq41
-returns-then-byte-eq41 c =
-    let h : c.skip_blanks-from.result < length c.args.line.now = omega (arith, c.skip_blanks-from.ensures.inside, c.if-from-line.false) in
-    token_right _ _ _ c.skip_blanks-from.ensures h c.if-byte-eq58.false c.if-byte-eq40.false c.if-byte-eq41.true
+pub returns-in-Some-eq40 : goal.returns-in-Some-eq40
+returns-in-Some-eq40 c =
+    let line = c.args.line.now in
+    let s = past_blanks line c.args.at c.blanks.result c.requires c.blanks.ensures in
+    let l = c.in-Some-eq40.ensures.lookup.3 in
+    let e : c.single-in-Some-eq40.result ≡ record { symbol = Some LeftParen; next = c.args.at + c.blanks.result + 1 } = search rules in
+    let b = sym (l.1 0) ∙ c.in-Some-eq40.field-0-test in
+    e ∙ token_left _ _ _ s l.0 (λ q. let z : ⊥ = omega (arith, b, q) in z) b
 
-pub returns : goal.returns
-returns c =
-    let h : c.skip_blanks-from.result < length c.args.line.now = omega (arith, c.skip_blanks-from.ensures.inside, c.if-from-line.false) in
-    ap (λ (s : ℕ). record { symbol = s; next = c.run_end-end.result }) c.symbol_of.ensures
-    ∙ token_run _ _ _ c.skip_blanks-from.ensures h c.if-byte-eq58.false c.if-byte-eq40.false c.if-byte-eq41.false c.run_end-end.result c.run_end-end.ensures
+pub returns-in-Some-eq41 : goal.returns-in-Some-eq41
+returns-in-Some-eq41 c =
+    let line = c.args.line.now in
+    let s = past_blanks line c.args.at c.blanks.result c.requires c.blanks.ensures in
+    let l = c.in-Some-eq41.ensures.lookup.3 in
+    let e : c.single-in-Some-eq41.result ≡ record { symbol = Some RightParen; next = c.args.at + c.blanks.result + 1 } = search rules in
+    let b = sym (l.1 0) ∙ c.in-Some-eq41.field-0-test in
+    e ∙ token_right _ _ _ s l.0 (λ q. let z : ⊥ = omega (arith, b, q) in z) (λ q. let z : ⊥ = omega (arith, b, q) in z) b
+
+pub overflow_add-end : goal.overflow_add-end
+overflow_add-end c =
+    let line = c.args.line.now in
+    let s = past_blanks line c.args.at c.blanks.result c.requires c.blanks.ensures in
+    let e = run_ends line _ c.run_length.result s.inside c.run_length.ensures in
+    record { fits = omega (arith, e.inside) }
+
+pub slice_bounds-symbol_of-end : goal.slice_bounds-symbol_of-end
+slice_bounds-symbol_of-end c =
+    let line = c.args.line.now in
+    let s = past_blanks line c.args.at c.blanks.result c.requires c.blanks.ensures in
+    let e = run_ends line _ c.run_length.result s.inside c.run_length.ensures in
+    omega (arith, e.inside)
+
+pub returns-in-Some : goal.returns-in-Some
+returns-in-Some c =
+    let line = c.args.line.now in
+    let s = past_blanks line c.args.at c.blanks.result c.requires c.blanks.ensures in
+    let l = c.in-Some.ensures.lookup.3 in
+    let e = run_ends line _ c.run_length.result s.inside c.run_length.ensures in
+    let colon : c.in-Some.field-0.now ≡ 58 → ⊥ = search rules in
+    let left : c.in-Some.field-0.now ≡ 40 → ⊥ = search rules in
+    let right : c.in-Some.field-0.now ≡ 41 → ⊥ = search rules in
+    ap (λ (s : Symbol). record { symbol = Some s; next = c.args.at + c.blanks.result + c.run_length.result }) c.symbol_of.ensures
+    ∙ token_run _ _ _ s l.0 (λ q. colon (l.1 0 ∙ q)) (λ q. left (l.1 0 ∙ q)) (λ q. right (l.1 0 ∙ q)) _ e

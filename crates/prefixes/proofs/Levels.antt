@@ -1,34 +1,44 @@
--- How tightly words bind: `or`, `and`, and every other; and which of two binds looser. Assumes nothing.
-use mathlib.Core.Path.{◌≡◌, refl, sym}
-use mathlib.Core.Bool.{Bool, true, false, ◌||◌}
-use Prim.Native.Nat.{ℕ, zero, suc, ◌≤◌, ◌<◌}
+-- Which of two words binds looser: `or`, then `and`, then every other. Assumes nothing.
+use mathlib.Core.Path.{◌≡◌, refl, sym, ap, ◌∙◌}
+use mathlib.Core.Bool.{Bool, true, false, not, ◌||◌, ◌&&◌}
+use Prim.Native.Nat.{ℕ, zero, suc}
 use native.Mathlib.Nat.{le_of_eq}
-use lib.Dec.{leb, ltb}
-use borrow.Author.Tests.{lt-ltb, le-ltb, eq-eqb, ne_eqb}
-use Rattle.typed.specs.Scanning.{Item, tightness, level, outranks}
+use native.Mathlib.Omega.{arith}
+use lib.Dec.{leb, ltb, eqb}
+use borrow.Author.Tests.{le-leb, le-ltb, eq-eqb, ne_eqb}
+use Rattle.typed.specs.Scanning.{Item, tightness, level, joins, outranks}
 
-pub level_or : level 4 ≡ 0
-unfolding tightness
-level_or = refl
+-- a word at the depth of an earlier one outranks it so, by the codes
+over : ℕ → ℕ → Bool
+over k l = joins k && leb (level k) (level l)
 
-pub level_and : level 5 ≡ 1
-unfolding tightness
-level_and = refl
+or_over : (l : ℕ) → over 4 l ≡ true
+unfolding tightness over
+or_over l = le-leb 0 (level l) (omega arith)
 
--- a code that is neither that of `or` nor that of `and`
-pub level_other : (k : ℕ) → (k ≡ 4 → ⊥) → (k ≡ 5 → ⊥) → level k ≡ 2
-unfolding tightness
-level_other zero f g = refl
-level_other (suc zero) f g = refl
-level_other (suc (suc zero)) f g = refl
-level_other (suc (suc (suc zero))) f g = refl
-level_other (suc (suc (suc (suc zero)))) f g = absurd (f refl)
-level_other (suc (suc (suc (suc (suc zero))))) f g = absurd (g refl)
-level_other (suc (suc (suc (suc (suc (suc zero)))))) f g = refl
-level_other (suc (suc (suc (suc (suc (suc (suc zero))))))) f g = refl
-level_other (suc (suc (suc (suc (suc (suc (suc (suc n)))))))) f g = refl
+and_over : (l : ℕ) → over 5 l ≡ not (eqb l 4)
+unfolding tightness over
+and_over zero = refl
+and_over (suc zero) = refl
+and_over (suc (suc zero)) = refl
+and_over (suc (suc (suc zero))) = refl
+and_over (suc (suc (suc (suc zero)))) = refl
+and_over (suc (suc (suc (suc (suc zero))))) = refl
+and_over (suc (suc (suc (suc (suc (suc zero)))))) = refl
+and_over (suc (suc (suc (suc (suc (suc (suc zero))))))) = refl
+and_over (suc (suc (suc (suc (suc (suc (suc (suc l)))))))) = sym (ap not (ne_eqb (suc (suc (suc (suc (suc (suc (suc (suc l)))))))) 4 (λ e. omega arith)))
 
--- ---- which of two words binds looser
+other_over : (k l : ℕ) → (k ≡ 4 → ⊥) → (k ≡ 5 → ⊥) → over k l ≡ false
+unfolding tightness over
+other_over zero l f g = refl
+other_over (suc zero) l f g = refl
+other_over (suc (suc zero)) l f g = refl
+other_over (suc (suc (suc zero))) l f g = refl
+other_over (suc (suc (suc (suc zero)))) l f g = absurd (f refl)
+other_over (suc (suc (suc (suc (suc zero))))) l f g = absurd (g refl)
+other_over (suc (suc (suc (suc (suc (suc zero)))))) l f g = refl
+other_over (suc (suc (suc (suc (suc (suc (suc zero))))))) l f g = refl
+other_over (suc (suc (suc (suc (suc (suc (suc (suc k)))))))) l f g = refl
 
 or_false : (b : Bool) → b ≡ b || false
 or_false true = refl
@@ -41,14 +51,15 @@ module _ (x y : Item) where
   outranks_apart f = rw (ne_eqb x.depth y.depth f) (or_false (ltb x.depth y.depth))
 
   module _ (e : x.depth ≡ y.depth) where
-    -- at the same depth, a word that joins no operands
-    pub outranks_other : 2 ≤ level x.code → false ≡ outranks x y
-    unfolding outranks
-    outranks_other h =
-        rw (le-ltb x.depth y.depth (le_of_eq (sym e)), eq-eqb x.depth y.depth e, le-ltb (level x.code) 2 h)
+    level_with : over x.code y.code ≡ outranks x y
+    unfolding outranks over
+    level_with = rw (le-ltb x.depth y.depth (le_of_eq (sym e)), eq-eqb x.depth y.depth e) refl
 
-    -- at the same depth, a word that joins two operands
-    pub outranks_joining : level x.code < 2 → leb (level x.code) (level y.code) ≡ outranks x y
-    unfolding outranks
-    outranks_joining h =
-        rw (le-ltb x.depth y.depth (le_of_eq (sym e)), eq-eqb x.depth y.depth e, lt-ltb (level x.code) 2 h)
+    pub outranks_or : x.code ≡ 4 → true ≡ outranks x y
+    outranks_or h = sym (or_over y.code) ∙ ap (λ (k : ℕ). over k y.code) (sym h) ∙ level_with
+
+    pub outranks_and : x.code ≡ 5 → not (eqb y.code 4) ≡ outranks x y
+    outranks_and h = sym (and_over y.code) ∙ ap (λ (k : ℕ). over k y.code) (sym h) ∙ level_with
+
+    pub outranks_other : (x.code ≡ 4 → ⊥) → (x.code ≡ 5 → ⊥) → false ≡ outranks x y
+    outranks_other f g = sym (other_over x.code y.code f g) ∙ level_with

@@ -1,5 +1,5 @@
 -- The laws behind the functions of this crate.
 pub mod Levels
-pub mod Items
+pub mod Chiefs
 pub mod Putting
 pub mod Determined

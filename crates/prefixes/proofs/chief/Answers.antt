@@ -1,32 +1,35 @@
--- `chief` meets its contract: it keeps the loosest of the words passed. The measure is the words left. Assumes nothing.
-use mathlib.Core.Path.{sym, ap, ◌∙◌}
+-- `chief` meets its contract: it keeps the loosest of the words passed. Assumes nothing.
+use mathlib.Core.Path.{sym, ap, ap₂, ◌∙◌}
 use Prim.Native.Nat.{ℕ, ◌+◌}
 use native.Mathlib.Omega.{arith}
-use Rattle.prefixes.proofs.Items.{chief_of, chief_first, chief_next, chief_last, looser_within}
+use Rattle.std.proofs.lemmas.List.{get_or_default}
+use Rattle.typed.specs.Scanning.{outranks}
+use Rattle.prefixes.proofs.Chiefs.{nothing, chief_of, chief_first, chief_moves, chief_stays, chief_last}
 use Rattle.prefixes.proofs.chief.Goals as goal
+use Rattle.prefixes.proofs.chief.Goals.{then-outranks, else-outranks}
 
 pub loop-i-init : goal.loop-i-init
-loop-i-init c =
-    (omega arith, c.requires.0, chief_first c.args.codes.now c.args.depths.now c.requires.1 c.requires.0)
-
-pub looser-best-requires : goal.looser-best-requires
-looser-best-requires c = (c.requires.1, c.loop-i.invariant.0, c.loop-i-test.true)
-
-pub loop-i-smaller : goal.loop-i-smaller
-loop-i-smaller c = omega arith
+loop-i-init c = (omega arith, chief_first c.args.items.now c.requires)
 
 pub loop-i-preserved : goal.loop-i-preserved
 loop-i-preserved c =
-    let cs = c.args.codes.now in
-    let ds = c.args.depths.now in
+    let xs = c.args.items.now in
     let loop = c.loop-i in
-    let e = c.looser-best.ensures in (
-      omega (arith, looser_within cs ds loop.best loop.i loop.invariant.0),
-      omega arith,
-      loop.invariant.2 ∙ chief_next cs ds c.requires.1 loop.best loop.i c.loop-i-test.true ∙ ap (λ (n : ℕ). chief_of cs ds n (loop.i + 1)) (sym e),
-    )
+    let here = c.index-items-i.is ∙ get_or_default xs loop.i c.index-items-i.result nothing c.loop-i-test.true in
+    let there = c.index-items-best.is ∙ get_or_default xs loop.best c.index-items-best.result nothing loop.invariant.0 in
+    let rank = c.outranks.ensures ∙ ap₂ outranks here there in
+    elim c.if-outranks.branch [
+      | then-outranks w ↦ (
+        omega arith,
+        loop.invariant.1 ∙ chief_moves xs loop.best loop.i c.loop-i-test.true (sym rank ∙ w.if-outranks.true)
+            ∙ ap (λ (k : ℕ). chief_of xs k (loop.i + 1)) (sym w.best-is),
+      )
+      | else-outranks w ↦ (
+        omega arith,
+        loop.invariant.1 ∙ chief_stays xs loop.best loop.i c.loop-i-test.true (sym rank ∙ w.if-outranks.false)
+            ∙ ap (λ (k : ℕ). chief_of xs k (loop.i + 1)) (sym w.best-is),
+      )
+    ]
 
-pub returns : goal.returns
-returns c =
-    let loop = c.loop-i in
-    sym (loop.invariant.2 ∙ chief_last c.args.codes.now c.args.depths.now c.requires.1 loop.best loop.i c.loop-i-test.false)
+pub returns-clause-loosest : goal.returns-clause-loosest
+returns-clause-loosest c = sym (c.loop-i.invariant.1 ∙ chief_last c.args.items.now c.loop-i.best c.loop-i.i c.loop-i-test.false)

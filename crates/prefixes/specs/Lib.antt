@@ -1,2 +1,0 @@
--- Words at their depth, as two runs of numbers.
-pub mod Items

@@ -6,123 +6,159 @@ use Prim.Native.Nat.{ℕ, ◌≤◌, ◌<◌}
 use native.Mathlib.Omega.{arith}
 use lib.Dec.{eqb}
 use lib.ListN.{length, drop}
-use Rattle.rules.specs.Descriptions.{most_expression_words}
-use Rattle.typed.specs.Symbols.{Symbol, symbols}
-use Rattle.typed.specs.Scanning.{Item, Scanned, malformed, preceded, last_board, scan}
+use Rattle.std.specs.Prelude.{Option, Some, None, if◌then◌else◌}
+use Rattle.std.specs.Bool.{then_some}
+use Rattle.std.specs.Option.{is_some}
+use borrow.Author.Tests.{eq-eqb}
+use Rattle.rules.proofs.Tests.{clash}
+use Rattle.typed.specs.Symbols.{Symbol, number, symbols}
+use Rattle.typed.specs.Scanning.{Item, Scanned, malformed, scanned, preceded, last_board, scan}
+use Rattle.symbols.specs.declared.Symbol.{Symbol as Mark}
+use Rattle.symbols.specs.declared.Symbol.TheVariants.{Boards, Colon, LeftParen, RightParen, Unknown, Word, Number}
 use Rattle.symbols.specs.declared.Token.{Token}
-use Rattle.symbols.specs.Tokens.{no_symbol}
+use Rattle.symbols.specs.Tokens.{mark, told}
 use Rattle.symbols.proofs.Steps.{Stepped, ends, steps}
-use Rattle.symbols.proofs.Marks.{OfSymbol, no_mark}
-use Rattle.spelled.proofs.Symbols.{Small}
-use Rattle.symbols.specs.Tokens.{mark}
-use Rattle.prefixes.specs.Items.{items}
+use Rattle.symbols.proofs.Marks.{told_mark}
+use Rattle.relation_texts.specs.declared.State.{State}
+use Rattle.relation_texts.specs.declared.Expression.{Expression}
 use Rattle.relation_texts.specs.declared.Found.{Found}
-use Rattle.relation_texts.specs.Scans.{item_of, allowed, deeper, expects, Keeps, Holds, Held, Ended}
-use Rattle.relation_texts.proofs.Marks.{closes, deeper_most}
-use Rattle.relation_texts.proofs.Moves.{preceded_none, preceded_twice, scan_passed, scan_stopped, scan_last, scan_none}
+use Rattle.relation_texts.specs.Scans.{item_of, allowed, deeper, expects, after, ended, Holds, Held}
+use Rattle.relation_texts.proofs.Moves.{preceded_none, preceded_twice, scan_passed, scan_stopped, deeper_most}
 
--- the line from `at` on is gone over up to `next`: the words so far are kept, with so many parentheses open, where an operand is expected or not
-pub record Going (line : List ℕ) (at : ℕ) (codes depths : List ℕ) (next depth : ℕ) (expected : Bool) (count : ℕ) : Type 0 where
+-- the line from `at` on is gone over up to `next`: the words so far are kept, in this state
+pub record Going (line : List ℕ) (at : ℕ) (e : Expression) (next : ℕ) (x : State) : Type 0 where
   pub inside : next ≤ length line
-  pub deep : depth ≤ next
-  pub codes_room : length codes ≡ most_expression_words
-  pub depths_room : length depths ≡ most_expression_words
+  pub deep : x.depth ≤ next
   pub words : List Item
-  pub held : Holds words codes depths count
-  pub left : scan 0 true (symbols (drop at line)) ≡ preceded words (scan depth expected (symbols (drop next line)))
+  pub held : Holds words e
+  pub left : scan 0 true (symbols (drop at line)) ≡ preceded words (scan x.depth x.expected (symbols (drop next line)))
 
-pub going_start : (line : List ℕ) (at : ℕ) (codes depths : List ℕ) → at ≤ length line → length codes ≡ most_expression_words → length depths ≡ most_expression_words
-    → Going line at codes depths at 0 true 0
-unfolding items
-going_start line at codes depths h p q =
-    record {
-      inside = h;
-      deep = omega arith;
-      codes_room = p;
-      depths_room = q;
-      words = [];
-      held = record { count = omega arith; words = λ l. refl };
-      left = preceded_none (scan 0 true (symbols (drop at line)));
-    }
+pub going_start : (line : List ℕ) (at : ℕ) (e : Expression) → at ≤ length line → Holds [] e → Going line at e at (record { depth = 0; expected = true })
+going_start line at e h k =
+    record { inside = h; deep = omega arith; words = []; held = k; left = preceded_none (scan 0 true (symbols (drop at line))) }
+
+-- ---- the end of a line
+
+-- a board ends the line where nothing is missing and nothing follows
+pub ends_so : (line : List ℕ) (at : ℕ) (t : Token) (d : ℕ) (e r : Bool) → Stepped line at t → d ≡ 0 → e ≡ false → is_some t.symbol ≡ not r
+    → (q : ℕ) → last_board (eqb d 0 && not e) q (symbols (drop at line)) ≡ ended r q
+ends_so line at t d e true (ends h i) p f n q =
+    ap (λ (ss : List Symbol). last_board (eqb d 0 && not e) q ss) i ∙ ap (λ (b : Bool). last_board (b && not e) q []) (eq-eqb d 0 p)
+    ∙ ap (λ (b : Bool). last_board (not b) q []) f
+ends_so line at t d e false (ends h i) p f n q = clash (let z = ap is_some h in cc)
+ends_so line at t d e true (steps s m h i l k) p f n q = clash (let z = ap is_some h in cc)
+ends_so line at t d e false (steps s m h i l k) p f n q = ap (λ (ss : List Symbol). last_board (eqb d 0 && not e) q ss) i
+
+-- ---- what comes next
 
 -- a symbol that is there
-pub record Next (line : List ℕ) (at : ℕ) (t : Token) : Type 0 where
-  pub symbol : Symbol
-  pub small : Small symbol
-  pub number : t.symbol ≡ mark symbol
-  pub rest : symbols (drop at line) ≡ symbol ∷ symbols (drop t.next line)
+pub record Next (line : List ℕ) (at : ℕ) (t : Token) (m : Mark) : Type 0 where
+  pub rest : symbols (drop at line) ≡ told m ∷ symbols (drop t.next line)
   pub later : at < t.next
   pub inside : t.next ≤ length line
 
-pub next_symbol : {line : List ℕ} {at : ℕ} {t : Token} → Stepped line at t → (t.symbol ≡ no_symbol → ⊥) → Next line at t
-next_symbol (ends e i) f = absurd (f e)
-next_symbol (steps s m e i l k) f = record { symbol = s; small = m; number = e; rest = i; later = l; inside = k }
+pub next_symbol : {line : List ℕ} {at : ℕ} {t : Token} (m : Mark) → Stepped line at t → t.symbol ≡ Some m → Next line at t m
+next_symbol m (ends e i) h = clash (cc)
+next_symbol {line} {at} {t} m (steps s y e i l k) h =
+    let p : mark s ≡ m = cc in
+    record { rest = i ∙ ap (λ (x : Symbol). x ∷ symbols (drop t.next line)) (sym (told_mark s) ∙ ap told p); later = l; inside = k }
 
--- what the words so far and the board after them come to
-held_last : (xs : List Item) (codes depths : List ℕ) (n q : ℕ) (r : Found) (b : Bool) (ss : List Symbol) → Holds xs codes depths n
-    → Ended (last_board b q ss) n r → Held (preceded xs (last_board b q ss)) codes depths r
-held_last xs codes depths n q r true [] h e =
-    (e.0, e.1, subst (λ (m : ℕ). Holds (xs ++ []) codes depths m) (sym e.2) (rw append-nil h))
-held_last xs codes depths n q r false [] h e = e
-held_last xs codes depths n q r b (s ∷ ss) h e = e
+-- what a symbol does to the state, if it may stand there
+step_of : Symbol → State → State
+step_of s x = record { depth = deeper s x.depth; expected = expects s }
 
-module _ {line : List ℕ} {at : ℕ} {codes depths : List ℕ} {next depth : ℕ} {expected : Bool} {count : ℕ}
-    (g : Going line at codes depths next depth expected count) (t : Token) where
+after_some : (s : Symbol) (x y : State) → Some y ≡ after s x → (allowed s x.depth x.expected ≡ true) × (y ≡ step_of s x)
+unfolding step_of
+after_some s x y e = go (allowed s x.depth x.expected) e
+  where
+    go : (b : Bool) → Some y ≡ (if b then Some (step_of s x) else None) → (b ≡ true) × (y ≡ step_of s x)
+    go true e = (refl, cc)
+    go false e = clash (cc)
+
+after_none : (s : Symbol) (x : State) → None ≡ after s x → allowed s x.depth x.expected ≡ false
+unfolding step_of
+after_none s x e = go (allowed s x.depth x.expected) e
+  where
+    go : (b : Bool) → None ≡ (if b then Some (step_of s x) else None) → b ≡ false
+    go true e = clash (cc)
+    go false e = refl
+
+-- the words so far and the board after them
+held_last : (xs : List Item) (e : Expression) (q : ℕ) (b : Bool) (o : Option Found) → Holds xs e
+    → o ≡ then_some b (record { expression = e; board = q }) → Held (preceded xs (ended b q)) o
+held_last xs e q true o h p = subst (λ (o : Option Found). Held (scanned (xs ++ []) q) o) (sym p) (refl, rw append-nil h)
+held_last xs e q false o h p = p
+
+-- a word is kept, and nothing of any other symbol
+pub held_word : (xs : List Item) (e f : Expression) (m : Mark) (k d : ℕ) → m ≡ Word k → f ≡ e → Holds (xs ++ (record { code = k; depth = d } ∷ [])) e
+    → Holds (xs ++ item_of (told m) d) f
+held_word xs e f m k d p q h =
+    subst (λ (m : Mark). Holds (xs ++ item_of (told m) d) f) (sym p)
+    (subst (λ (e : Expression). Holds (xs ++ (record { code = k; depth = d } ∷ [])) e) (sym q) h)
+
+pub held_still : (xs : List Item) (e f : Expression) (m : Mark) (d : ℕ) → ((k : ℕ) → m ≡ Word k → ⊥) → f ≡ e → Holds xs e → Holds (xs ++ item_of (told m) d) f
+held_still xs e f m d g q h = subst (λ (e : Expression). Holds (xs ++ item_of (told m) d) e) (sym q) (go m g)
+  where
+    go : (m : Mark) → ((k : ℕ) → m ≡ Word k → ⊥) → Holds (xs ++ item_of (told m) d) e
+    go Boards g = rw append-nil h
+    go Colon g = rw append-nil h
+    go LeftParen g = rw append-nil h
+    go RightParen g = rw append-nil h
+    go Unknown g = rw append-nil h
+    go (Word k) g = absurd (g k refl)
+    go (Number n) g = rw append-nil h
+
+no_number : (m : Mark) → ((q : ℕ) → m ≡ Number q → ⊥) → (q : ℕ) → told m ≡ number q → ⊥
+no_number Boards f q e = cc
+no_number Colon f q e = cc
+no_number LeftParen f q e = cc
+no_number RightParen f q e = cc
+no_number Unknown f q e = cc
+no_number (Word k) f q e = cc
+no_number (Number n) f q e = f n refl
+
+module _ {line : List ℕ} {at : ℕ} {e : Expression} {next : ℕ} {x : State} (g : Going line at e next x) (t : Token) where
   -- the line is malformed where what is left of it is
-  malformed_rest : scan depth expected (symbols (drop next line)) ≡ malformed → (r : Found) → r.good ≡ false
-      → Held (scan 0 true (symbols (drop at line))) codes depths r
-  malformed_rest e r f = subst (λ (s : Scanned). Held s codes depths r) (sym (g.left ∙ ap (preceded g.words) e)) f
+  malformed_rest : scan x.depth x.expected (symbols (drop next line)) ≡ malformed → (o : Option Found) → o ≡ None → Held (scan 0 true (symbols (drop at line))) o
+  malformed_rest p o n = subst (λ (s : Scanned). Held s o) (sym (g.left ∙ ap (preceded g.words) p)) n
 
   -- nothing is left
-  pub going_none : Stepped line next t → t.symbol ≡ no_symbol → (r : Found) → r.good ≡ false → Held (scan 0 true (symbols (drop at line))) codes depths r
-  going_none (ends e i) h r f = malformed_rest (ap (scan depth expected) i ∙ scan_none depth expected) r f
-  going_none (steps s m e i l k) h r f = absurd (no_mark t.symbol h s m e)
+  pub going_none : Stepped line next t → t.symbol ≡ None → (o : Option Found) → o ≡ None → Held (scan 0 true (symbols (drop at line))) o
+  unfolding scan
+  going_none (ends h i) n o p = malformed_rest (ap (scan x.depth x.expected) i) o p
+  going_none (steps s m h i l k) n o p = clash (cc)
 
-  module _ (n : Next line next t) where
+  module _ (m : Mark) (n : Next line next t m) where
+    passed : (s : Symbol) → told m ≡ s → scan x.depth x.expected (symbols (drop next line)) ≡ scan x.depth x.expected (s ∷ symbols (drop t.next line))
+    passed s p = ap (scan x.depth x.expected) (n.rest ∙ ap (λ (s : Symbol). s ∷ symbols (drop t.next line)) p)
+
     -- a board is left, after an expression or not
-    pub going_last : t.symbol < 65536 → (r : Found) → Ended (last_board (eqb depth 0 && not expected) t.symbol (symbols (drop t.next line))) count r
-        → Held (scan 0 true (symbols (drop at line))) codes depths r
-    going_last l r e =
-        subst (λ (s : Scanned). Held s codes depths r)
-        (sym (g.left ∙ ap (λ (ss : List Symbol). preceded g.words (scan depth expected ss)) n.rest
-        ∙ ap (preceded g.words) (scan_last t.symbol l depth expected (symbols (drop t.next line)) n.symbol n.small n.number)))
-        (held_last g.words codes depths count t.symbol r (eqb depth 0 && not expected) (symbols (drop t.next line)) g.held e)
+    pub going_last : (q : ℕ) → told m ≡ number q → (b : Bool)
+        → ((q : ℕ) → last_board (eqb x.depth 0 && not x.expected) q (symbols (drop t.next line)) ≡ ended b q)
+        → (o : Option Found) → o ≡ then_some b (record { expression = e; board = q }) → Held (scan 0 true (symbols (drop at line))) o
+    unfolding scan
+    going_last q p b f o h =
+        subst (λ (s : Scanned). Held s o) (sym (g.left ∙ ap (preceded g.words) (passed (number q) p ∙ f q))) (held_last g.words e q b o g.held h)
 
     -- a symbol is left that may not stand there
-    pub going_stopped : 65536 ≤ t.symbol → (a : Bool) → OfSymbol t.symbol (λ s. a ≡ allowed s depth expected) → a ≡ false → (r : Found) → r.good ≡ false
-        → Held (scan 0 true (symbols (drop at line))) codes depths r
-    going_stopped l a f e r b =
-        malformed_rest
-        (ap (scan depth expected) n.rest
-        ∙ scan_stopped t.symbol l depth expected (symbols (drop t.next line)) n.symbol n.small n.number
-        (sym (f n.symbol n.small n.number) ∙ e)) r b
+    pub going_stopped : ((q : ℕ) → m ≡ Number q → ⊥) → None ≡ after (told m) x → (o : Option Found) → o ≡ None → Held (scan 0 true (symbols (drop at line))) o
+    going_stopped f h o p =
+        malformed_rest (passed (told m) refl ∙ scan_stopped (told m) (no_number m f) x.depth x.expected (symbols (drop t.next line)) (after_none (told m) x h)) o p
 
-    module _ (a : Bool) (f : OfSymbol t.symbol (λ s. a ≡ allowed s depth expected)) (e : a ≡ true) where
-      may_stand : allowed n.symbol depth expected ≡ true
-      may_stand = sym (f n.symbol n.small n.number) ∙ e
-
-      pub going_closes : t.symbol ≡ 65539 → 1 ≤ depth
-      going_closes h = closes t.symbol h depth expected n.symbol n.small n.number may_stand
-
-      -- one that may is passed
-      pub going_on : {codes' depths' : List ℕ} {depth' : ℕ} {expected' : Bool} {count' : ℕ} → length codes' ≡ most_expression_words → length depths' ≡ most_expression_words
-          → Keeps t.symbol depth codes depths count codes' depths' count' → OfSymbol t.symbol (λ s. depth' ≡ deeper s depth)
-          → OfSymbol t.symbol (λ s. expected' ≡ expects s) → Going line at codes' depths' t.next depth' expected' count'
-      going_on {codes'} {depths'} {depth'} {expected'} {count'} p q k d x =
-          let s = n.symbol in
-          let d' : depth' ≡ deeper s depth = d s n.small n.number in
-          let x' : expected' ≡ expects s = x s n.small n.number in
-          record {
-            inside = n.inside;
-            deep = omega (arith, deeper_most s depth, g.deep, n.later);
-            codes_room = p;
-            depths_room = q;
-            words = g.words ++ item_of s depth;
-            held = k s n.small n.number g.words g.held;
-            left =
-                g.left ∙ ap (λ (ss : List Symbol). preceded g.words (scan depth expected ss)) n.rest
-                ∙ ap (preceded g.words) (scan_passed s depth expected (symbols (drop t.next line)) may_stand)
-                ∙ preceded_twice g.words (item_of s depth) (scan (deeper s depth) (expects s) (symbols (drop t.next line)))
-                ∙ ap (λ (m : ℕ). preceded (g.words ++ item_of s depth) (scan m (expects s) (symbols (drop t.next line)))) (sym d')
-                ∙ ap (λ (b : Bool). preceded (g.words ++ item_of s depth) (scan depth' b (symbols (drop t.next line)))) (sym x');
-          }
+    -- one that may is passed
+    pub going_on : {e' : Expression} {y : State} → Holds (g.words ++ item_of (told m) x.depth) e' → Some y ≡ after (told m) x → Going line at e' t.next y
+    unfolding step_of
+    going_on {e'} {y} k h =
+        let s = told m in
+        let a = after_some s x y h in
+        let d : y.depth ≡ deeper s x.depth = ap (λ (z : State). z.depth) a.1 in
+        record {
+          inside = n.inside;
+          deep = omega (arith, deeper_most s x.depth, g.deep, n.later);
+          words = g.words ++ item_of s x.depth;
+          held = k;
+          left =
+              g.left ∙ ap (preceded g.words) (passed s refl ∙ scan_passed s x.depth x.expected (symbols (drop t.next line)) a.0)
+              ∙ preceded_twice g.words (item_of s x.depth) (scan (deeper s x.depth) (expects s) (symbols (drop t.next line)))
+              ∙ ap (λ (z : State). preceded (g.words ++ item_of s x.depth) (scan z.depth z.expected (symbols (drop t.next line)))) (sym a.1);
+        }

@@ -1,8 +1,6 @@
 -- The laws behind the functions of this crate.
-pub mod Marks
-pub mod Keeping
+pub mod Words
 pub mod Moves
-pub mod Lasts
 pub mod Going
 pub mod Taking
 pub mod Determined

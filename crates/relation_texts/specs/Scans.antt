@@ -1,11 +1,11 @@
 -- What stands in the code of a line that is gone over: the words so far with their depths, and what a symbol does. Assumes nothing.
-use Rattle.std.specs.Prelude.{◌≡◌, Bool, true, false, not, ◌&&◌, List, [], ◌∷◌, ◌++◌, ℕ, suc, ◌+◌, ◌-◌, ◌≤◌, min, nat_lt, nat_le, length, take}
+use Rattle.std.specs.Prelude.{◌≡◌, Option, Some, None, if◌then◌else◌, Bool, true, false, not, ◌&&◌, List, [], ◌∷◌, ◌++◌, ℕ, suc, ◌+◌, ◌-◌, ◌≤◌, min, nat_lt, nat_le, length, take}
 use Rattle.std.proofs.lemmas.List.Edits.{sets}
 use Rattle.rules.specs.Descriptions.{most_expression_words}
 use Rattle.typed.specs.Symbols.{Symbol, boards, colon, left_paren, right_paren, unknown, word, number}
 use Rattle.typed.specs.Scanning.{Item, prefixed, names, fits, Scanned, malformed, scanned}
-use Rattle.symbols.proofs.Marks.{OfSymbol}
-use Rattle.prefixes.specs.Items.{item, items}
+use Rattle.relation_texts.specs.declared.State.{State}
+use Rattle.relation_texts.specs.declared.Expression.{Expression}
 use Rattle.relation_texts.specs.declared.Found.{Found}
 
 -- the word that a symbol adds at a depth
@@ -15,7 +15,7 @@ item_of colon d = []
 item_of left_paren d = []
 item_of right_paren d = []
 item_of unknown d = []
-item_of (word k) d = item k d ∷ []
+item_of (word k) d = record { code = k; depth = d } ∷ []
 item_of (number n) d = []
 
 -- whether a symbol may stand with so many parentheses open, where an operand is expected or not
@@ -48,39 +48,41 @@ expects unknown = false
 expects (word k) = not (names k)
 expects (number n) = false
 
--- the words so far are kept, as long as they are not too many, and counted up to one too many
-pub record Holds (xs : List Item) (codes depths : List ℕ) (n : ℕ) : Type 0 where
-  pub count : n ≡ min (length xs) (suc most_expression_words)
-  pub words : length xs ≤ most_expression_words → items (take n codes) (take n depths) ≡ xs
+-- how many parentheses are open after a symbol, and whether an operand is expected then, if it may stand there
+abbrev pub after : Symbol → State → Option State
+after s x = (if allowed s x.depth x.expected then Some (record { depth = deeper s x.depth; expected = expects s }) else None)
 
--- the word of a symbol is kept after those so far
-abbrev pub Keeps : ℕ → ℕ → List ℕ → List ℕ → ℕ → List ℕ → List ℕ → ℕ → Type 0
-Keeps symbol depth codes depths n codes' depths' n' =
-    OfSymbol symbol (λ s. (xs : List Item) → Holds xs codes depths n → Holds (xs ++ item_of s depth) codes' depths' n')
+-- the board after the expression ends the line, or not
+abbrev pub ended : Bool → ℕ → Scanned
+ended true q = scanned [] q
+ended false q = malformed
+
+-- the words so far are kept, as long as they are not too many, and counted up to one too many
+pub record Holds (xs : List Item) (e : Expression) : Type 0 where
+  pub room : length e.items ≡ most_expression_words
+  pub count : e.count ≡ min (length xs) (suc most_expression_words)
+  pub words : length xs ≤ most_expression_words → take e.count e.items ≡ xs
+
+-- no words are kept
+abbrev pub Nothing : Expression → Type 0
+Nothing e = Holds [] e
+
+-- a word is kept after those so far
+abbrev pub Keeps : Item → Expression → Expression → Type 0
+Keeps x e f = (xs : List Item) → Holds xs e → Holds (xs ++ (x ∷ [])) f
 
 -- what the line came to
-abbrev pub Held : Scanned → List ℕ → List ℕ → Found → Type 0
-Held malformed codes depths r = r.good ≡ false
-Held (scanned xs q) codes depths r = (r.good ≡ true) × (r.board ≡ q) × Holds xs codes depths r.count
-
--- what the board after the expression came to, with so many words before it
-abbrev pub Ended : Scanned → ℕ → Found → Type 0
-Ended malformed n r = r.good ≡ false
-Ended (scanned xs q) n r = (r.good ≡ true) × (r.board ≡ q) × (r.count ≡ n)
-
--- the words that are kept can be put
-pub record Ready (codes depths words : List ℕ) (next count : ℕ) : Type 0 where
-  pub codes_room : length codes ≡ most_expression_words
-  pub depths_room : length depths ≡ most_expression_words
-  pub few : count ≤ suc most_expression_words
-  pub room : next + 18 ≤ length words
+abbrev pub Held : Scanned → Option Found → Type 0
+Held malformed o = o ≡ None
+Held (scanned xs q) None = ⊥
+Held (scanned xs q) (Some r) = (r.board ≡ q) × Holds xs r.expression
 
 -- the words after the first three: none where they are too many
-abbrev pub kept : Bool → List ℕ → List ℕ → ℕ → List ℕ
-kept true codes depths n = prefixed (items (take n codes) (take n depths))
-kept false codes depths n = []
+abbrev pub kept : Bool → Expression → List ℕ
+kept true e = prefixed (take e.count e.items)
+kept false e = []
 
 -- the words of a relation line stand from a place on
-pub record PutRelation (codes depths before : List ℕ) (at first second count : ℕ) (after : List ℕ) (next : ℕ) : Type 0 where
-  pub words : after ≡ sets before at (first ∷ second ∷ count ∷ kept (nat_le count most_expression_words) codes depths count)
-  pub place : next ≡ at + (3 + length (kept (nat_le count most_expression_words) codes depths count))
+pub record PutRelation (r : Found) (before : List ℕ) (at board : ℕ) (after : List ℕ) (next : ℕ) : Type 0 where
+  pub words : after ≡ sets before at (board ∷ r.board ∷ r.expression.count ∷ kept (nat_le r.expression.count most_expression_words) r.expression)
+  pub place : next ≡ at + (3 + length (kept (nat_le r.expression.count most_expression_words) r.expression))

@@ -3,8 +3,8 @@ use lib.ListN.{length}
 use Rattle.relation_texts.proofs.Going.{Going}
 use Rattle.relation_texts.proofs.scan.Given as goal
 
-abbrev pub invariant-loop-at : goal.invariant-loop-at
-invariant-loop-at l = Going l.line l.at l.codes l.depths l.next l.depth l.expected l.count
+abbrev pub invariant-loop-symbol : goal.invariant-loop-symbol
+invariant-loop-symbol l = Going l.line l.at l.expression l.next l.state
 
-abbrev pub decreases-loop-at : goal.decreases-loop-at
-decreases-loop-at l = length l.line - l.next
+abbrev pub decreases-loop-symbol : goal.decreases-loop-symbol
+decreases-loop-symbol l = length l.line - l.next

@@ -2,7 +2,7 @@
 use mathlib.Core.Path.{◌≡◌, refl, sym, ap, ◌∙◌, subst}
 use mathlib.Core.Bool.{Bool, true, false, not, ◌&&◌}
 use mathlib.Core.List.{List, [], ◌∷◌, ◌++◌, append-nil}
-use Prim.Native.Nat.{ℕ, ◌≤◌, ◌<◌}
+use Prim.Native.Nat.{ℕ, ◌≤◌}
 use native.Mathlib.Omega.{arith}
 use lib.Dec.{eqb}
 use lib.ListN.{length, drop}
@@ -16,9 +16,8 @@ use Rattle.typed.specs.Scanning.{Item, Scanned, malformed, scanned, preceded, la
 use Rattle.symbols.specs.declared.Symbol.{Symbol as Mark}
 use Rattle.symbols.specs.declared.Symbol.TheVariants.{Boards, Colon, LeftParen, RightParen, Unknown, Word, Number}
 use Rattle.symbols.specs.declared.Token.{Token}
-use Rattle.symbols.specs.Tokens.{mark, told}
-use Rattle.symbols.proofs.Steps.{Stepped, ends, steps}
-use Rattle.symbols.proofs.Marks.{told_mark}
+use Rattle.symbols.specs.Tokens.{told}
+use Rattle.symbols.proofs.Steps.{Stepped, ends, steps, Next}
 use Rattle.relation_texts.specs.declared.State.{State}
 use Rattle.relation_texts.specs.declared.Expression.{Expression}
 use Rattle.relation_texts.specs.declared.Found.{Found}
@@ -50,18 +49,6 @@ ends_so line at t d e true (steps s m h i l k) p f n q = clash (let z = ap is_so
 ends_so line at t d e false (steps s m h i l k) p f n q = ap (λ (ss : List Symbol). last_board (eqb d 0 && not e) q ss) i
 
 -- ---- what comes next
-
--- a symbol that is there
-pub record Next (line : List ℕ) (at : ℕ) (t : Token) (m : Mark) : Type 0 where
-  pub rest : symbols (drop at line) ≡ told m ∷ symbols (drop t.next line)
-  pub later : at < t.next
-  pub inside : t.next ≤ length line
-
-pub next_symbol : {line : List ℕ} {at : ℕ} {t : Token} (m : Mark) → Stepped line at t → t.symbol ≡ Some m → Next line at t m
-next_symbol m (ends e i) h = clash (cc)
-next_symbol {line} {at} {t} m (steps s y e i l k) h =
-    let p : mark s ≡ m = cc in
-    record { rest = i ∙ ap (λ (x : Symbol). x ∷ symbols (drop t.next line)) (sym (told_mark s) ∙ ap told p); later = l; inside = k }
 
 -- what a symbol does to the state, if it may stand there
 step_of : Symbol → State → State
@@ -117,18 +104,17 @@ no_number Unknown f q e = cc
 no_number (Word k) f q e = cc
 no_number (Number n) f q e = f n refl
 
-module _ {line : List ℕ} {at : ℕ} {e : Expression} {next : ℕ} {x : State} (g : Going line at e next x) (t : Token) where
+module _ {line : List ℕ} {at : ℕ} {e : Expression} {next : ℕ} {x : State} (g : Going line at e next x) where
   -- the line is malformed where what is left of it is
   malformed_rest : scan x.depth x.expected (symbols (drop next line)) ≡ malformed → (o : Option Found) → o ≡ None → Held (scan 0 true (symbols (drop at line))) o
   malformed_rest p o n = subst (λ (s : Scanned). Held s o) (sym (g.left ∙ ap (preceded g.words) p)) n
 
   -- nothing is left
-  pub going_none : Stepped line next t → t.symbol ≡ None → (o : Option Found) → o ≡ None → Held (scan 0 true (symbols (drop at line))) o
+  pub going_none : symbols (drop next line) ≡ [] → (o : Option Found) → o ≡ None → Held (scan 0 true (symbols (drop at line))) o
   unfolding scan
-  going_none (ends h i) n o p = malformed_rest (ap (scan x.depth x.expected) i) o p
-  going_none (steps s m h i l k) n o p = clash (cc)
+  going_none i o p = malformed_rest (ap (scan x.depth x.expected) i) o p
 
-  module _ (m : Mark) (n : Next line next t m) where
+  module _ (t : Token) (m : Mark) (n : Next line next t m) where
     passed : (s : Symbol) → told m ≡ s → scan x.depth x.expected (symbols (drop next line)) ≡ scan x.depth x.expected (s ∷ symbols (drop t.next line))
     passed s p = ap (scan x.depth x.expected) (n.rest ∙ ap (λ (s : Symbol). s ∷ symbols (drop t.next line)) p)
 

@@ -8,8 +8,11 @@ use lib.Seq.{drop_at, drop-drop}
 use Rattle.std.specs.Prelude.{Some, None}
 use Rattle.typed.specs.Symbols.{Symbol, blank, spelling, Front, blanks, front, front_of, symbols}
 use Rattle.spelled.proofs.Symbols.{Begins, space, spelt, strange, front_of_begins, begins_shorter, Small, front_small, after, symbols_step}
+use Rattle.symbols.specs.declared.Symbol.{Symbol as Mark}
 use Rattle.symbols.specs.declared.Token.{Token}
-use Rattle.symbols.specs.Tokens.{mark, token_of, token}
+use Rattle.symbols.specs.Tokens.{mark, told, token_of, token}
+use Rattle.symbols.proofs.Marks.{told_mark}
+use Rattle.rules.proofs.Tests.{clash}
 
 -- what a token says of the symbols from its place on
 pub data Stepped (line : List ℕ) (at : ℕ) (t : Token) : Type 0 where
@@ -32,6 +35,12 @@ ends_drop bs rest e =
     let l : length e.before ≡ length bs - length rest = omega (arith, ap length e.whole, length-append e.before rest) in
     ap (drop (length bs - length rest)) e.whole ∙ drop_at e.before rest (length bs - length rest) l
 
+-- a symbol that is there, as the code has it
+pub record Next (line : List ℕ) (at : ℕ) (t : Token) (m : Mark) : Type 0 where
+  pub rest : symbols (drop at line) ≡ told m ∷ symbols (drop t.next line)
+  pub later : at < t.next
+  pub inside : t.next ≤ length line
+
 module _ (line : List ℕ) (at : ℕ) (h : at ≤ length line) where
   pub token_steps : Stepped line at (token line at)
   unfolding token
@@ -51,3 +60,19 @@ module _ (line : List ℕ) (at : ℕ) (h : at ≤ length line) where
   -- the same of a token that is equal to it
   pub stepped : {t : Token} → t ≡ token line at → Stepped line at t
   stepped e = subst (Stepped line at) (sym e) token_steps
+
+  pub next_symbol : {t : Token} → t ≡ token line at → (m : Mark) → t.symbol ≡ Some m → Next line at t m
+  next_symbol {t} e m p = go (stepped e)
+    where
+      go : Stepped line at t → Next line at t m
+      go (ends q i) = clash (cc)
+      go (steps s y q i l k) =
+          let z : mark s ≡ m = cc in
+          record { rest = i ∙ ap (λ (x : Symbol). x ∷ symbols (drop t.next line)) (sym (told_mark s) ∙ ap told z); later = l; inside = k }
+
+  pub none_left : {t : Token} → t ≡ token line at → t.symbol ≡ None → symbols (drop at line) ≡ []
+  none_left {t} e p = go (stepped e)
+    where
+      go : Stepped line at t → symbols (drop at line) ≡ []
+      go (ends q i) = i
+      go (steps s y q i l k) = clash (cc)

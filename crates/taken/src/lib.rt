@@ -5,16 +5,14 @@ ghost use Rattle.std.specs.Prelude.{◌≡◌, ◌+◌, ◌≤◌, length};
 ghost use Rattle.std.proofs.lemmas.List.Edits.{sets};
 ghost use Rattle.taken.specs.Lines.{Begun};
 
-// The words of a line before its expression or its ways.
-const LINE_WORDS: usize = 3;
-
 // Puts the first three words of a line from a place on, and answers the next place.
 pub fn put_start(words: &mut [u16], at: usize, first: u16, second: u16, count: u16) -> usize
     requires { at + 3 ≤ length words.old }
     ensures { Begun words.old at first second count words.new result }
 {
-    put_words(words, at, &[first, second, count]);
-    at + LINE_WORDS
+    let start = [first, second, count];
+    put_words(words, at, &start);
+    at + start.len()
 }
 
 // Puts some words from a place on.

@@ -4,7 +4,7 @@ use mathlib.Core.Bool.{Bool, true, false, not, cond}
 use mathlib.Core.List.{List, [], ◌∷◌}
 use Prim.Native.Nat.{ℕ, suc, ◌+◌, ◌-◌, ◌≤◌, ◌<◌}
 use native.Mathlib.Omega.{arith}
-use borrow.Author.Tests.{eq-eqb, ne_eqb}
+use borrow.Author.Tests.{ne_eqb}
 use lib.Dec.{eqb}
 use lib.ListN.{length, get_or, take, drop, length-drop, drop_of_length-le}
 use lib.Seq.{drop-cons, length-take-le, drop-drop, get_or-drop}
@@ -149,45 +149,44 @@ module _ (line : List ℕ) (at from : ℕ) (s : Skipped line at from) where
         ∙ sym (ap (token_of (length line)) (s.front ∙ front_solid line from h (s.solid h) ∙ e))
 
     -- a colon or a parenthesis is a symbol by itself
-    token_single : (x : Symbol) → first byte rest ≡ front x rest → ◌≡◌ {A = Token} (record { symbol = Some (mark x); next = from + 1 }) (token line at)
-    token_single x e =
+    token_single : (x : Symbol) (b : ℕ) → byte ≡ b → first b rest ≡ front x rest
+        → ◌≡◌ {A = Token} (record { symbol = Some (mark x); next = from + 1 }) (token line at)
+    token_single x b p e =
         let n : suc from ≡ from + 1 = omega arith in
-        token_front x (from + 1) (omega arith) (e ∙ ap (λ (k : ℕ). front x (drop k line)) n)
+        token_front x (from + 1) (omega arith) (ap (λ (c : ℕ). first c rest) p ∙ e ∙ ap (λ (k : ℕ). front x (drop k line)) n)
 
     pub token_colon : byte ≡ 58 → ◌≡◌ {A = Token} (record { symbol = Some (mark colon); next = from + 1 }) (token line at)
+    unfolding first
+    token_colon e = token_single colon 58 e refl
+
+    pub token_left : byte ≡ 40 → ◌≡◌ {A = Token} (record { symbol = Some (mark left_paren); next = from + 1 }) (token line at)
+    unfolding first
+    token_left e = token_single left_paren 40 e refl
+
+    pub token_right : byte ≡ 41 → ◌≡◌ {A = Token} (record { symbol = Some (mark right_paren); next = from + 1 }) (token line at)
+    unfolding first
+    token_right e = token_single right_paren 41 e refl
+
+    -- all else is a word or a number, up to where it ends
+    pub token_run : (byte ≡ 58 → ⊥) → (byte ≡ 40 → ⊥) → (byte ≡ 41 → ⊥) → (end : ℕ) → RunEnd line from end
+        → ◌≡◌ {A = Token} (record { symbol = Some (mark (symbol_of (take (end - from) (drop from line)))); next = end }) (token line at)
     unfolding by_marks
-    token_colon e = token_single colon (first_by byte rest true (eqb byte 40) (eqb byte 41) (eq-eqb byte 58 e) refl refl)
+    token_run not_colon not_left not_right end r = token_front (symbol_of (take (end - from) (drop from line))) end r.inside whole
+      where
+        c : byte ∷ rest ≡ drop from line
+        c = sym (drop-cons line from 0 h)
 
-    module _ (not_colon : byte ≡ 58 → ⊥) where
-      pub token_left : byte ≡ 40 → ◌≡◌ {A = Token} (record { symbol = Some (mark left_paren); next = from + 1 }) (token line at)
-      unfolding by_marks
-      token_left e = token_single left_paren (first_by byte rest false true (eqb byte 41) (ne_eqb byte 58 not_colon) (eq-eqb byte 40 e) refl)
+        size : length (run (drop from line)) ≡ end - from
+        size = ap length r.run ∙ length-take-le (end - from) (drop from line) (omega (arith, length-drop from line, r.inside))
 
-      module _ (not_left : byte ≡ 40 → ⊥) where
-        pub token_right : byte ≡ 41 → ◌≡◌ {A = Token} (record { symbol = Some (mark right_paren); next = from + 1 }) (token line at)
-        unfolding by_marks
-        token_right e = token_single right_paren (first_by byte rest false false true (ne_eqb byte 58 not_colon) (ne_eqb byte 40 not_left) (eq-eqb byte 41 e))
+        left : drop (length (run (drop from line))) (drop from line) ≡ drop end line
+        left =
+            let e : from + (end - from) ≡ end = omega (arith, r.after) in
+            ap (λ (n : ℕ). drop n (drop from line)) size ∙ drop-drop (end - from) from line ∙ ap (λ (n : ℕ). drop n line) e
 
-        -- all else is a word or a number, up to where it ends
-        pub token_run : (byte ≡ 41 → ⊥) → (end : ℕ) → RunEnd line from end
-            → ◌≡◌ {A = Token} (record { symbol = Some (mark (symbol_of (take (end - from) (drop from line)))); next = end }) (token line at)
-        unfolding by_marks
-        token_run not_right end r = token_front (symbol_of (take (end - from) (drop from line))) end r.inside whole
-          where
-            c : byte ∷ rest ≡ drop from line
-            c = sym (drop-cons line from 0 h)
-
-            size : length (run (drop from line)) ≡ end - from
-            size = ap length r.run ∙ length-take-le (end - from) (drop from line) (omega (arith, length-drop from line, r.inside))
-
-            left : drop (length (run (drop from line))) (drop from line) ≡ drop end line
-            left =
-                let e : from + (end - from) ≡ end = omega (arith, r.after) in
-                ap (λ (n : ℕ). drop n (drop from line)) size ∙ drop-drop (end - from) from line ∙ ap (λ (n : ℕ). drop n line) e
-
-            whole : first byte rest ≡ front (symbol_of (take (end - from) (drop from line))) (drop end line)
-            whole =
-                first_by byte rest false false false (ne_eqb byte 58 not_colon) (ne_eqb byte 40 not_left) (ne_eqb byte 41 not_right)
-                ∙ ap (λ (l : List ℕ). front (symbol_of (run l)) (drop (length (run l)) l)) c
-                ∙ ap (λ (x : List ℕ). front (symbol_of x) (drop (length (run (drop from line))) (drop from line))) r.run
-                ∙ ap (front (symbol_of (take (end - from) (drop from line)))) left
+        whole : first byte rest ≡ front (symbol_of (take (end - from) (drop from line))) (drop end line)
+        whole =
+            first_by byte rest false false false (ne_eqb byte 58 not_colon) (ne_eqb byte 40 not_left) (ne_eqb byte 41 not_right)
+            ∙ ap (λ (l : List ℕ). front (symbol_of (run l)) (drop (length (run l)) l)) c
+            ∙ ap (λ (x : List ℕ). front (symbol_of x) (drop (length (run (drop from line))) (drop from line))) r.run
+            ∙ ap (front (symbol_of (take (end - from) (drop from line)))) left

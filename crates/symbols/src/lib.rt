@@ -90,14 +90,16 @@ fn parts(byte: u8) -> bool
 
 // How many blanks are at the front of some bytes.
 fn blanks(bytes: &[u8]) -> usize
-    ensures { result ≡ prefix_len (λ b. nat_eq b blank) bytes.now }
+    ensures counted { result ≡ prefix_len (λ b. nat_eq b blank) bytes.now }
+    ensures within { result ≤ length bytes.now }
 {
     bytes.iter().take_while(|byte| **byte == b' ').count()
 }
 
 // The length of the word or number that some bytes begin with.
 fn run_length(bytes: &[u8]) -> usize
-    ensures { result ≡ prefix_len (λ b. not (parts b)) bytes.now }
+    ensures counted { result ≡ prefix_len (λ b. not (parts b)) bytes.now }
+    ensures within { result ≤ length bytes.now }
 {
     bytes.iter().take_while(|byte| !parts(**byte)).count()
 }

@@ -9,20 +9,15 @@ use Rattle.symbols.specs.declared.Symbol.TheVariants.{Colon, LeftParen, RightPar
 use Rattle.symbols.proofs.Fronts.{past_blanks, run_ends, token_none, token_colon, token_left, token_right, token_run}
 use Rattle.symbols.proofs.symbol_at.Goals as goal
 
-pub overflow_add-from : goal.overflow_add-from
-overflow_add-from c =
-    let s = past_blanks _ _ _ c.requires c.blanks.ensures in
-    record { fits = omega (arith, s.inside) }
-
 pub returns-in-None : goal.returns-in-None
 returns-in-None c =
-    let s = past_blanks _ _ _ c.requires c.blanks.ensures in
+    let s = past_blanks _ _ _ c.requires c.blanks.ensures.counted in
     token_none _ _ _ s (omega (arith, s.inside, c.in-None.ensures.lookup.3))
 
 pub returns-in-Some-eq58 : goal.returns-in-Some-eq58
 returns-in-Some-eq58 c =
     let line = c.args.line.now in
-    let s = past_blanks line c.args.at c.blanks.result c.requires c.blanks.ensures in
+    let s = past_blanks line c.args.at c.blanks.result c.requires c.blanks.ensures.counted in
     let l = c.in-Some-eq58.ensures.lookup.3 in
     let e : c.single.result ≡ record { symbol = Some Colon; next = c.args.at + c.blanks.result + 1 } = search rules in
     e ∙ token_colon _ _ _ s l.0 (sym (l.1 0) ∙ c.in-Some-eq58.field-0-test)
@@ -30,41 +25,25 @@ returns-in-Some-eq58 c =
 pub returns-in-Some-eq40 : goal.returns-in-Some-eq40
 returns-in-Some-eq40 c =
     let line = c.args.line.now in
-    let s = past_blanks line c.args.at c.blanks.result c.requires c.blanks.ensures in
+    let s = past_blanks line c.args.at c.blanks.result c.requires c.blanks.ensures.counted in
     let l = c.in-Some-eq40.ensures.lookup.3 in
     let e : c.single-in-Some-eq40.result ≡ record { symbol = Some LeftParen; next = c.args.at + c.blanks.result + 1 } = search rules in
-    let b = sym (l.1 0) ∙ c.in-Some-eq40.field-0-test in
-    e ∙ token_left _ _ _ s l.0 (λ q. let z : ⊥ = omega (arith, b, q) in z) b
+    e ∙ token_left _ _ _ s l.0 (sym (l.1 0) ∙ c.in-Some-eq40.field-0-test)
 
 pub returns-in-Some-eq41 : goal.returns-in-Some-eq41
 returns-in-Some-eq41 c =
     let line = c.args.line.now in
-    let s = past_blanks line c.args.at c.blanks.result c.requires c.blanks.ensures in
+    let s = past_blanks line c.args.at c.blanks.result c.requires c.blanks.ensures.counted in
     let l = c.in-Some-eq41.ensures.lookup.3 in
     let e : c.single-in-Some-eq41.result ≡ record { symbol = Some RightParen; next = c.args.at + c.blanks.result + 1 } = search rules in
-    let b = sym (l.1 0) ∙ c.in-Some-eq41.field-0-test in
-    e ∙ token_right _ _ _ s l.0 (λ q. let z : ⊥ = omega (arith, b, q) in z) (λ q. let z : ⊥ = omega (arith, b, q) in z) b
-
-pub overflow_add-end : goal.overflow_add-end
-overflow_add-end c =
-    let line = c.args.line.now in
-    let s = past_blanks line c.args.at c.blanks.result c.requires c.blanks.ensures in
-    let e = run_ends line _ c.run_length.result s.inside c.run_length.ensures in
-    record { fits = omega (arith, e.inside) }
-
-pub slice_bounds-symbol_of-end : goal.slice_bounds-symbol_of-end
-slice_bounds-symbol_of-end c =
-    let line = c.args.line.now in
-    let s = past_blanks line c.args.at c.blanks.result c.requires c.blanks.ensures in
-    let e = run_ends line _ c.run_length.result s.inside c.run_length.ensures in
-    omega (arith, e.inside)
+    e ∙ token_right _ _ _ s l.0 (sym (l.1 0) ∙ c.in-Some-eq41.field-0-test)
 
 pub returns-in-Some : goal.returns-in-Some
 returns-in-Some c =
     let line = c.args.line.now in
-    let s = past_blanks line c.args.at c.blanks.result c.requires c.blanks.ensures in
+    let s = past_blanks line c.args.at c.blanks.result c.requires c.blanks.ensures.counted in
     let l = c.in-Some.ensures.lookup.3 in
-    let e = run_ends line _ c.run_length.result s.inside c.run_length.ensures in
+    let e = run_ends line _ c.run_length.result s.inside c.run_length.ensures.counted in
     let colon : c.in-Some.field-0.now ≡ 58 → ⊥ = search rules in
     let left : c.in-Some.field-0.now ≡ 40 → ⊥ = search rules in
     let right : c.in-Some.field-0.now ≡ 41 → ⊥ = search rules in

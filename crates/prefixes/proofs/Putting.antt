@@ -27,7 +27,8 @@ pub loosest_below : (xs : List Item) → (length xs ≡ 0 → ⊥) → chief xs 
 loosest_below [] h = absurd (h refl)
 loosest_below (x ∷ xs) h = chief_below x xs
 
-step : (xs : List Item) → (length xs ≡ 0 → ⊥) → (i : ℕ) → i ≡ chief xs → prefixed xs ≡ code_at xs i ∷ (prefixed (take i xs) ++ prefixed (drop (suc i) xs))
+step : (xs : List Item) → (length xs ≡ 0 → ⊥) → (i : ℕ) → i ≡ chief xs
+    → prefixed xs ≡ code_at xs i ∷ (prefixed (take i xs) ++ prefixed (drop (suc i) xs))
 step [] h i e = absurd (h refl)
 step (x ∷ xs) h i e = rw e (prefixed_step x xs)
 

@@ -83,7 +83,8 @@ held_word xs e f m k d p q h =
     subst (λ (m : Mark). Holds (xs ++ item_of (told m) d) f) (sym p)
     (subst (λ (e : Expression). Holds (xs ++ (record { code = k; depth = d } ∷ [])) e) (sym q) h)
 
-pub held_still : (xs : List Item) (e f : Expression) (m : Mark) (d : ℕ) → ((k : ℕ) → m ≡ Word k → ⊥) → f ≡ e → Holds xs e → Holds (xs ++ item_of (told m) d) f
+pub held_still : (xs : List Item) (e f : Expression) (m : Mark) (d : ℕ) → ((k : ℕ) → m ≡ Word k → ⊥) → f ≡ e → Holds xs e
+    → Holds (xs ++ item_of (told m) d) f
 held_still xs e f m d g q h = subst (λ (e : Expression). Holds (xs ++ item_of (told m) d) e) (sym q) (go m g)
   where
     go : (m : Mark) → ((k : ℕ) → m ≡ Word k → ⊥) → Holds (xs ++ item_of (told m) d) e
@@ -106,7 +107,8 @@ no_number (Number n) f q e = f n refl
 
 module _ {line : List ℕ} {at : ℕ} {e : Expression} {next : ℕ} {x : State} (g : Going line at e next x) where
   -- the line is malformed where what is left of it is
-  malformed_rest : scan x.depth x.expected (symbols (drop next line)) ≡ malformed → (o : Option Found) → o ≡ None → Held (scan 0 true (symbols (drop at line))) o
+  malformed_rest : scan x.depth x.expected (symbols (drop next line)) ≡ malformed → (o : Option Found) → o ≡ None
+      → Held (scan 0 true (symbols (drop at line))) o
   malformed_rest p o n = subst (λ (s : Scanned). Held s o) (sym (g.left ∙ ap (preceded g.words) p)) n
 
   -- nothing is left
@@ -127,7 +129,8 @@ module _ {line : List ℕ} {at : ℕ} {e : Expression} {next : ℕ} {x : State} 
         subst (λ (s : Scanned). Held s o) (sym (g.left ∙ ap (preceded g.words) (passed (number q) p ∙ f q))) (held_last g.words e q b o g.held h)
 
     -- a symbol is left that may not stand there
-    pub going_stopped : ((q : ℕ) → m ≡ Number q → ⊥) → None ≡ after (told m) x → (o : Option Found) → o ≡ None → Held (scan 0 true (symbols (drop at line))) o
+    pub going_stopped : ((q : ℕ) → m ≡ Number q → ⊥) → None ≡ after (told m) x → (o : Option Found) → o ≡ None
+        → Held (scan 0 true (symbols (drop at line))) o
     going_stopped f h o p =
         malformed_rest (passed (told m) refl ∙ scan_stopped (told m) (no_number m f) x.depth x.expected (symbols (drop t.next line)) (after_none (told m) x h)) o p
 

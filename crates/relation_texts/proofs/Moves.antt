@@ -38,7 +38,8 @@ scan_passed (word k) d e ss h = ap (λ (b : Bool). by_test b (preceded (record {
 scan_passed (number n) d e ss h = clash (cc)
 
 -- any other that is no number makes the line malformed
-pub scan_stopped : (s : Symbol) → ((n : ℕ) → s ≡ number n → ⊥) → (d : ℕ) (e : Bool) (ss : List Symbol) → allowed s d e ≡ false → scan d e (s ∷ ss) ≡ malformed
+pub scan_stopped : (s : Symbol) → ((n : ℕ) → s ≡ number n → ⊥) → (d : ℕ) (e : Bool) (ss : List Symbol) → allowed s d e ≡ false
+    → scan d e (s ∷ ss) ≡ malformed
 unfolding scan by_test
 scan_stopped boards f d e ss h = refl
 scan_stopped colon f d e ss h = refl

@@ -23,6 +23,7 @@ struct State {
 }
 
 // The words of an expression with their depths, as many as a description has, and how many there are, up to one too many.
+// Stays: an array with a count beside it, since there is no heap.
 #[derive(Drop)]
 struct Expression {
     items: [Item; MOST_EXPRESSION_WORDS],

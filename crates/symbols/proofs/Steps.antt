@@ -17,8 +17,8 @@ use Rattle.rules.proofs.Tests.{clash}
 -- what a token says of the symbols from its place on
 pub data Stepped (line : List ℕ) (at : ℕ) (t : Token) : Type 0 where
   ends : t.symbol ≡ None → symbols (drop at line) ≡ [] → Stepped line at t
-  steps : (s : Symbol) → Small s → t.symbol ≡ Some (mark s) → symbols (drop at line) ≡ s ∷ symbols (drop t.next line) → at < t.next → t.next ≤ length line
-      → Stepped line at t
+  steps : (s : Symbol) → Small s → t.symbol ≡ Some (mark s) → symbols (drop at line) ≡ s ∷ symbols (drop t.next line) → at < t.next
+      → t.next ≤ length line → Stepped line at t
 
 -- what is left after a symbol ends the bytes
 record Ends (bs rest : List ℕ) : Type 0 where

@@ -1,5 +1,5 @@
 -- The symbol of a run of bytes, by its place among the words. Assumes nothing.
-use mathlib.Core.Path.{◌≡◌, refl, sym, ap, ap₂, ◌∙◌}
+use mathlib.Core.Path.{◌≡◌, refl, sym, ap, ap₂, ◌∙◌, subst}
 use mathlib.Core.Bool.{Bool, true, false, not, ◌&&◌, cond}
 use mathlib.Core.Logic.{⊎_elim}
 use mathlib.Core.List.{List, [], ◌∷◌, map}
@@ -132,6 +132,7 @@ by_number (Some n) = Number n
 
 pub number_marked : (r : List ℕ) (o : Option ℕ) → o ≡ if_number (number_of r) Some None → by_number o ≡ mark (number_of r)
 unfolding by_number
-number_marked r o e =
-    ap by_number e
-    ∙ ⊎_elim (λ q. ap (λ (s : Symbol). by_number (if_number s Some None)) q ∙ sym (ap mark q)) (λ q. ap (λ (s : Symbol). by_number (if_number s Some None)) q ∙ sym (ap mark q)) (number_of_either r)
+number_marked r o e = ap by_number e ∙ ⊎_elim (λ q. subst agree (sym q) refl) (λ q. subst agree (sym q) refl) (number_of_either r)
+  where
+    agree : Symbol → Type 0
+    agree s = by_number (if_number s Some None) ≡ mark s

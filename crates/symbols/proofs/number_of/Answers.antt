@@ -28,7 +28,8 @@ returns-in_err-value c =
 
 pub overflow_add-value : goal.overflow_add-value
 overflow_add-value c =
-    record { fits = omega (arith, c.loop-byte.invariant.small, c.in_ok-value.ensures.value.0, c.in_ok-value.ensures.value.1, most_few c.loop-byte.byte-index (omega arith)) }
+    let value = c.in_ok-value.ensures.value in
+    record { fits = omega (arith, c.loop-byte.invariant.small, value.0, value.1, most_few c.loop-byte.byte-index (omega arith)) }
 
 pub loop-byte-preserved : goal.loop-byte-preserved
 loop-byte-preserved c =
@@ -42,4 +43,5 @@ pub returns : goal.returns
 returns c =
     let filled = eqb-false (length c.args.run.now) 0 (sym c.is_empty.ensures ∙ c.if-is_empty.false) in
     let some : 1 ≤ length c.args.run.now = omega arith in
-    c.ok.ensures.value ∙ one_number _ c.loop-byte.byte-index c.loop-byte.value some c.loop-byte-test.false c.loop-byte.invariant c.try_from.result c.try_from.ensures
+    c.ok.ensures.value
+    ∙ one_number _ c.loop-byte.byte-index c.loop-byte.value some c.loop-byte-test.false c.loop-byte.invariant c.try_from.result c.try_from.ensures

@@ -11,7 +11,9 @@ returns-then-eq c = sym (ap mark (is_boards_word _ (sym c.eq.ensures ∙ c.if-eq
 
 pub returns-in-Some : goal.returns-in-Some
 unfolding words
-returns-in-Some c = let run = c.args.run.now in sym (ap mark (no_boards_word run (sym c.eq.ensures ∙ c.if-eq.false) ∙ is_word run c.in-Some.code c.in-Some.ensures))
+returns-in-Some c =
+    let run = c.args.run.now in
+    sym (ap mark (no_boards_word run (sym c.eq.ensures ∙ c.if-eq.false) ∙ is_word run c.in-Some.code c.in-Some.ensures))
 
 pub returns-in-None : goal.returns-in-None
 unfolding words by_number

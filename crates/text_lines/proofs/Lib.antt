@@ -1,5 +1,5 @@
 -- The laws behind the functions of this crate.
-pub mod Ends
+pub mod Splitting
 pub mod Opening
 pub mod Sorting
 pub mod Storing

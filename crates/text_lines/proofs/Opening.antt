@@ -6,6 +6,7 @@ use Prim.Native.Nat.{ℕ, ◌≤◌, ◌<◌}
 use native.Mathlib.Omega.{arith}
 use borrow.Author.Tests.{eq-eqb, ne_eqb}
 use lib.Dec.{eqb}
+use Rattle.std.proofs.Common.{None, Some}
 use Rattle.rules.proofs.Tests.{clash}
 use Rattle.typed.specs.Symbols.{Symbol, symbols, boards, colon, left_paren, right_paren, unknown, word, number, is_boards, if_number}
 use Rattle.typed.specs.Sheets.{First, no_boards, boards_of, boards_in, first_of}
@@ -14,7 +15,6 @@ use Rattle.symbols.specs.Tokens.{no_symbol, token}
 use Rattle.symbols.proofs.Steps.{Stepped, ends, steps, stepped}
 use Rattle.symbols.proofs.Marks.{OfSymbol, number_only, no_mark}
 use Rattle.kind_texts.proofs.Moves.{from}
-use Rattle.text_lines.specs.declared.Opened.{Opened}
 use Rattle.text_lines.specs.Lines.{Opens}
 
 module _ (n : ℕ) where
@@ -83,13 +83,13 @@ module _ (line : List ℕ) (at : ℕ) (t : Token) where
   end_missing (steps s m e i l k) h v = ap (λ (ss : List Symbol). boards_in (number v ∷ ss)) i
 
 -- the first line is malformed
-pub opens_none : {f : First} → f ≡ no_boards → (r : Opened) → r.good ≡ false → Opens f r
-opens_none e r g = subst (λ (f : First). Opens f r) (sym e) g
+pub opens_none : {f : First} → f ≡ no_boards → Opens f None
+opens_none e = subst (λ (f : First). Opens f None) (sym e) refl
 
 -- it does not begin with the word `boards`
-pub opens_without : (line : List ℕ) (t : Token) (r : Opened) → t ≡ token line 0 → (t.symbol ≡ 65536 → ⊥) → r.good ≡ false → Opens (first_of (symbols line)) r
-opens_without line t r e h g = opens_none (word_missing line 0 t (stepped line 0 (omega arith) e) h) r g
+pub opens_without : (line : List ℕ) (t : Token) → t ≡ token line 0 → (t.symbol ≡ 65536 → ⊥) → Opens (first_of (symbols line)) None
+opens_without line t e h = opens_none (word_missing line 0 t (stepped line 0 (omega arith) e) h)
 
 -- it says how many boards there are
-pub opens_some : {f : First} (v : ℕ) → f ≡ boards_of v → Opens f (record { good = true; boards = v })
-opens_some v e = subst (λ (f : First). Opens f (record { good = true; boards = v })) (sym e) (refl, refl)
+pub opens_some : {f : First} (v : ℕ) → f ≡ boards_of v → Opens f (Some v)
+opens_some v e = subst (λ (f : First). Opens f (Some v)) (sym e) refl

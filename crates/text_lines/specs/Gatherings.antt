@@ -1,5 +1,5 @@
 -- What gathering the lines of a text answers and leaves. Assumes nothing.
-use Rattle.std.specs.Prelude.{◌≡◌, ℕ, suc, ◌+◌, ◌*◌, length, take, drop}
+use Rattle.std.specs.Prelude.{◌≡◌, ℕ, suc, ◌+◌, ◌*◌, length, take, drop, Result, Err, IsOkAnd}
 use mathlib.Core.List.{List, [], ◌∷◌, map, flatten}
 use Rattle.rules.specs.Descriptions.{most_lines, most_kinds, most_expression_words, most_ways, describe}
 use Rattle.typed.specs.Symbols.{symbols}
@@ -40,13 +40,12 @@ kinds_room = suc most_kinds * (3 + most_ways)
 
 -- the words of as many lines as there may be are gathered, and all lines are counted
 pub record Whole (v : ℕ) (rs ks : List (List ℕ)) (ws kinds : List ℕ) (r : Gathered) : Type 0 where
-  pub good : r.fault ≡ 0
   pub boards : r.boards ≡ v
-  pub relations : r.relations ≡ length rs
-  pub panels : r.kinds ≡ length ks
-  pub relation_words_lem : Stored most_expression_words 6 ws r.next (take most_lines rs)
-  pub kind_words_lem : Stored most_ways 0 kinds r.last (take most_kinds ks)
+  pub relations : r.relations.lines ≡ length rs
+  pub panels : r.kinds.lines ≡ length ks
+  pub relation_words_lem : Stored most_expression_words 6 ws r.relations.end (take most_lines rs)
+  pub kind_words_lem : Stored most_ways 0 kinds r.kinds.end (take most_kinds ks)
 
-abbrev pub Gathers : Parts → List ℕ → List ℕ → Gathered → Type 0
-Gathers (fault_at n) ws kinds r = r.fault ≡ n
-Gathers (parts v rs ks) ws kinds r = Whole v rs ks ws kinds r
+abbrev pub Gathers : Parts → List ℕ → List ℕ → Result Gathered ℕ → Type 0
+Gathers (fault_at n) ws kinds r = r ≡ Err n
+Gathers (parts v rs ks) ws kinds r = IsOkAnd r (Whole v rs ks ws kinds)

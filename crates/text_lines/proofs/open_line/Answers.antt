@@ -56,8 +56,8 @@ worded c = word_read _ _ _ (first (before2 c)) (omega tested)
 
 pub returns-then-number-ge-BOARDS : goal.returns-then-number-ge-BOARDS
 returns-then-number-ge-BOARDS c =
-    let here = c.before.before.before.before in
-    opens_none (worded here ∙ number_missing _ _ _ (second here) c.if-number-ge-BOARDS.true) _ c.unopened-then-number-ge-BOARDS.ensures
+    let here = c.before.before.before in
+    opens_none (worded here ∙ number_missing _ _ _ (second here) c.if-number-ge-BOARDS.true)
 
 -- ---- the end
 
@@ -84,8 +84,8 @@ numbered c = worded (before3 c) ∙ number_read _ _ _ (second (before3 c)) c.if-
 
 pub returns-then-end-ne-NO_SYMBOL : goal.returns-then-end-ne-NO_SYMBOL
 returns-then-end-ne-NO_SYMBOL c =
-    let here = c.before.before.before.before in
-    opens_none (numbered here ∙ end_missing _ _ _ (third here) c.if-end-ne-NO_SYMBOL.true _) _ c.unopened-then-end-ne-NO_SYMBOL.ensures
+    let here = c.before.before.before in
+    opens_none (numbered here ∙ end_missing _ _ _ (third here) c.if-end-ne-NO_SYMBOL.true _)
 
 pub returns : goal.returns
 returns c =

@@ -5,6 +5,8 @@ use Prim.Native.Nat.{ℕ, ◌+◌, ◌≤◌, ◌<◌, min}
 use native.Mathlib.Omega.{arith}
 use lib.ListN.{length, take, drop, length-map}
 use lib.Seq.{sets, sets-eq, length-sets, take_all, take-append-add}
+use Rattle.std.specs.Result.{IsOkAnd}
+use Rattle.std.proofs.Common.{Result, Ok, Err}
 use Rattle.rules.specs.Descriptions.{most_boards, most_lines, most_kinds, most_expression_words, most_ways, most_words, Sheet, Reading, good, refused, read, describe}
 use Rattle.rules.specs.Calls.{Outcome, refuse, given}
 use Rattle.rules.proofs.Tests.{clash}
@@ -15,7 +17,6 @@ use Rattle.typed.specs.Grammar.{lines_of, LinesTyped, none, relation_next, kind_
 use Rattle.typed.specs.Sheets.{First, no_boards, boards_of, first_of, Lines, stopped, lines, lines_from, Typed, sheet, typed}
 use Rattle.typed.specs.Calls.{most_count, in_room, read_typed, from_text}
 use Rattle.meanings.proofs.Sheets.{made_lines}
-use Rattle.meanings.proofs.Malformed.{malformed_first}
 use Rattle.returns.proofs.Sections.{IsLine}
 use Rattle.returns.proofs.Made.{relation_typed_line, kind_typed_line}
 use Rattle.returns.proofs.Headers.{range_boards, range_lines, range_kinds, read_described}
@@ -52,10 +53,6 @@ pub from_parts : (text room : List ℕ) → read_parts (sheet_parts (lines_of te
 unfolding from_text
 from_parts text room = ap (λ (t : Typed). read_typed t room) (sym (text_typed text))
 
--- a fault has a number from 1 on
-pub fault_some : (text : List ℕ) (n : ℕ) → sheet_parts (lines_of text) ≡ fault_at n → 1 ≤ n
-fault_some text n e = (malformed_first text n (text_typed text ∙ ap typed_parts e)).some
-
 -- the words of lines are lines
 pub typed_lines : {ls rs ks : List (List ℕ)} → LinesTyped ls rs ks → (All IsLine rs) × (All IsLine ks)
 typed_lines none = (all_none IsLine, all_none IsLine)
@@ -87,11 +84,11 @@ module _ {v : ℕ} {rs ks : List (List ℕ)} {ws kinds : List ℕ} {g : Gathered
   kind_part = flatten (map (brief most_ways) ks)
 
   -- no line is left out
-  relations_stored : Stored most_expression_words 6 ws g.next rs
-  relations_stored = subst (Stored most_expression_words 6 ws g.next) (take_all most_lines rs few_relations) w.relation_words_lem
+  relations_stored : Stored most_expression_words 6 ws g.relations.end rs
+  relations_stored = subst (Stored most_expression_words 6 ws g.relations.end) (take_all most_lines rs few_relations) w.relation_words_lem
 
-  kinds_stored : Stored most_ways 0 kinds g.last ks
-  kinds_stored = subst (Stored most_ways 0 kinds g.last) (take_all most_kinds ks few_kinds) w.kind_words_lem
+  kinds_stored : Stored most_ways 0 kinds g.kinds.end ks
+  kinds_stored = subst (Stored most_ways 0 kinds g.kinds.end) (take_all most_kinds ks few_kinds) w.kind_words_lem
 
   module _ (relation_lines : All IsLine rs) (kind_lines : All IsLine ks) (p : length ws ≡ most_words) (q : length kinds ≡ kinds_room) where
     pub joins : Joins ws kinds g
@@ -108,32 +105,29 @@ module _ {v : ℕ} {rs ks : List (List ℕ)} {ws kinds : List ℕ} {g : Gathered
         }
 
     module _ {after : List ℕ} {total : ℕ} (j : Joined ws kinds g after total) where
-      pub total_few : total ≤ most_words
-      total_few = omega (arith, j.count, joins.room)
-
       -- the words are those of the description, as far as its lines are not too long
       pub joined_words : take total after ≡ describe v (map (brief most_expression_words) rs) (map (brief most_ways) ks)
       joined_words =
-          ap (take total) (j.words ∙ ap (sets front g.next) kind_words_lem) ∙ after_front ∙ ap (λ (us : List ℕ). us ++ kind_part) front_words ∙ named
+          ap (take total) (j.words ∙ ap (sets front g.relations.end) kind_words_lem) ∙ after_front ∙ ap (λ (us : List ℕ). us ++ kind_part) front_words ∙ named
         where
           front : List ℕ
           front = sets ws 0 (header g total)
 
-          kind_words_lem : take g.last kinds ≡ kind_part
-          kind_words_lem = let e : g.last ≡ length kind_part = omega (arith, kinds_stored.place) in ap (λ (n : ℕ). take n kinds) e ∙ kinds_stored.words
+          kind_words_lem : take g.kinds.end kinds ≡ kind_part
+          kind_words_lem = let e : g.kinds.end ≡ length kind_part = omega (arith, kinds_stored.place) in ap (λ (n : ℕ). take n kinds) e ∙ kinds_stored.words
 
-          after_front : take total (sets front g.next kind_part) ≡ take g.next front ++ kind_part
+          after_front : take total (sets front g.relations.end kind_part) ≡ take g.relations.end front ++ kind_part
           after_front =
-              let t : total ≡ g.next + length kind_part = omega (arith, j.count, kinds_stored.place) in
-              let n : g.next ≡ 0 + g.next = omega arith in
-              let r : 0 + g.next + length kind_part ≤ length front = omega (arith, length-sets ws 0 (header g total), joins.room, kinds_stored.place) in
-              ap (λ (k : ℕ). take k (sets front g.next kind_part)) t
-              ∙ ap (λ (k : ℕ). take (g.next + length kind_part) (sets front k kind_part)) n ∙ put_more front 0 g.next kind_part r
+              let t : total ≡ g.relations.end + length kind_part = omega (arith, j.count, kinds_stored.place) in
+              let n : g.relations.end ≡ 0 + g.relations.end = omega arith in
+              let r : 0 + g.relations.end + length kind_part ≤ length front = omega (arith, length-sets ws 0 (header g total), joins.room, kinds_stored.place) in
+              ap (λ (k : ℕ). take k (sets front g.relations.end kind_part)) t
+              ∙ ap (λ (k : ℕ). take (g.relations.end + length kind_part) (sets front k kind_part)) n ∙ put_more front 0 g.relations.end kind_part r
 
-          front_words : take g.next front ≡ header g total ++ relation_part
+          front_words : take g.relations.end front ≡ header g total ++ relation_part
           front_words =
               let r : 0 + 6 ≤ length ws = omega arith in
-              ap (take g.next) (sets-eq (header g total) ws 0 r)
+              ap (take g.relations.end) (sets-eq (header g total) ws 0 r)
               ∙ ap (λ (k : ℕ). take k (header g total ++ drop 6 ws)) relations_stored.place
               ∙ take-append-add (header g total) (drop 6 ws) (length relation_part) ∙ ap (λ (us : List ℕ). header g total ++ us) relations_stored.words
 
@@ -143,11 +137,11 @@ module _ {v : ℕ} {rs ks : List (List ℕ)} {ws kinds : List ℕ} {g : Gathered
 
           named : (header g total ++ relation_part) ++ kind_part ≡ describe v (map (brief most_expression_words) rs) (map (brief most_ways) ks)
           named =
-              let a : g.relations ≡ length (map (brief most_expression_words) rs) = w.relations ∙ sym (length-map rs (brief most_expression_words)) in
-              let b : g.kinds ≡ length (map (brief most_ways) ks) = w.panels ∙ sym (length-map ks (brief most_ways)) in
+              let a : g.relations.lines ≡ length (map (brief most_expression_words) rs) = w.relations ∙ sym (length-map rs (brief most_expression_words)) in
+              let b : g.kinds.lines ≡ length (map (brief most_ways) ks) = w.panels ∙ sym (length-map ks (brief most_ways)) in
               let t : total ≡ 6 + length relation_part + length kind_part = omega (arith, j.count, relations_stored.place, kinds_stored.place) in
-              ap (λ (x : ℕ). six x g.relations g.kinds g.next total) w.boards
-              ∙ ap (λ (x : ℕ). six v x g.kinds g.next total) a ∙ ap (λ (x : ℕ). six v (length (map (brief most_expression_words) rs)) x g.next total) b
+              ap (λ (x : ℕ). six x g.relations.lines g.kinds.lines g.relations.end total) w.boards
+              ∙ ap (λ (x : ℕ). six v x g.kinds.lines g.relations.end total) a ∙ ap (λ (x : ℕ). six v (length (map (brief most_expression_words) rs)) x g.relations.end total) b
               ∙ ap (λ (x : ℕ). six v (length (map (brief most_expression_words) rs)) (length (map (brief most_ways) ks)) x total) relations_stored.place
               ∙ ap (six v (length (map (brief most_expression_words) rs)) (length (map (brief most_ways) ks)) (6 + length relation_part)) t
 
@@ -196,27 +190,67 @@ pub record Parted (text ws kinds : List ℕ) (g : Gathered) : Type 0 where
   pub relation_lines_lem : All IsLine rs
   pub kind_lines_lem : All IsLine ks
 
-module _ (text ws kinds : List ℕ) (g : Gathered) (h : Gathers (sheet_parts (lines_of text)) ws kinds g) where
-  pub stopped_at : (g.fault ≡ 0 → ⊥) → (room : List ℕ) → refuse 20 (min g.fault most_count) room ≡ from_text text room
-  stopped_at f room = go (sheet_parts (lines_of text)) refl h ∙ from_parts text room
+module _ (text ws kinds : List ℕ) (r : Result Gathered ℕ) (h : Gathers (sheet_parts (lines_of text)) ws kinds r) where
+  pub stopped_at : {n : ℕ} → r ≡ Err n → (room : List ℕ) → refuse 20 (min n most_count) room ≡ from_text text room
+  stopped_at {n} f room = go (sheet_parts (lines_of text)) refl h ∙ from_parts text room
     where
-      go : (p : Parts) → sheet_parts (lines_of text) ≡ p → Gathers p ws kinds g → refuse 20 (min g.fault most_count) room ≡ read_parts (sheet_parts (lines_of text)) room
-      go (fault_at n) e t = ap (λ (k : ℕ). refuse 20 (min k most_count) room) t ∙ sym (ap (λ (p : Parts). read_parts p room) e)
-      go (parts v rs ks) e t = absurd (f t.good)
+      go : (p : Parts) → sheet_parts (lines_of text) ≡ p → Gathers p ws kinds r → refuse 20 (min n most_count) room ≡ read_parts (sheet_parts (lines_of text)) room
+      go (fault_at m) e t =
+          let k : n ≡ m = cc (t, f) in
+          ap (λ (k : ℕ). refuse 20 (min k most_count) room) k ∙ sym (ap (λ (p : Parts). read_parts p room) e)
+      go (parts v rs ks) e t = absurd (subst (λ (x : Result Gathered ℕ). IsOkAnd x (Whole v rs ks ws kinds)) f t)
 
-  pub parted : g.fault ≡ 0 → Parted text ws kinds g
-  parted f = go (sheet_parts (lines_of text)) refl h
+  parted : {g : Gathered} → r ≡ Ok g → Parted text ws kinds g
+  parted {g} f = go (sheet_parts (lines_of text)) refl h
     where
-      go : (p : Parts) → sheet_parts (lines_of text) ≡ p → Gathers p ws kinds g → Parted text ws kinds g
-      go (fault_at n) e t = clash (omega (arith, fault_some text n e))
+      go : (p : Parts) → sheet_parts (lines_of text) ≡ p → Gathers p ws kinds r → Parted text ws kinds g
+      go (fault_at n) e t = clash (cc (t, f))
       go (parts v rs ks) e t =
           let l = parts_lines (lines_of text) v rs ks e in
-          record { v = v; rs = rs; ks = ks; is = e; whole = t; relation_lines_lem = l.0; kind_lines_lem = l.1 }
+          record {
+            v = v;
+            rs = rs;
+            ks = ks;
+            is = e;
+            whole = subst (λ (x : Result Gathered ℕ). IsOkAnd x (Whole v rs ks ws kinds)) f t;
+            relation_lines_lem = l.0;
+            kind_lines_lem = l.1;
+          }
 
-  -- few boards, and too many relation lines
-  pub lines_over : g.fault ≡ 0 → 1 ≤ g.boards → g.boards ≤ most_boards → most_lines < g.relations → (room : List ℕ) → from_text text room ≡ refuse 1 1 room
-  lines_over f some most over room =
-      let p = parted f in
-      sym
-      (many_relations p.v p.rs p.ks room (omega (arith, p.whole.boards)) (omega (arith, p.whole.boards)) (omega (arith, p.whole.relations))
-      ∙ ap (λ (x : Parts). read_parts x room) (sym p.is) ∙ from_parts text room)
+  module _ {g : Gathered} (f : r ≡ Ok g) (room : List ℕ) where
+    abbrev p : Parted text ws kinds g
+    p = parted f
+
+    told : {o : Outcome (List ℕ)} → o ≡ read_parts (parts p.v p.rs p.ks) room → o ≡ from_text text room
+    told e = e ∙ ap (λ (x : Parts). read_parts x room) (sym p.is) ∙ from_parts text room
+
+    -- no board, or too many
+    pub boards_out : (1 ≤ g.boards → g.boards ≤ most_boards → ⊥) → refuse 1 0 room ≡ from_text text room
+    boards_out out = told (no_boards_lem p.v p.rs p.ks room (λ low high. out (omega (arith, p.whole.boards)) (omega (arith, p.whole.boards))))
+
+    module _ (some : 1 ≤ g.boards) (most : g.boards ≤ most_boards) where
+      -- too many relation lines
+      pub lines_over : most_lines < g.relations.lines → refuse 1 1 room ≡ from_text text room
+      lines_over over = told (many_relations p.v p.rs p.ks room (omega (arith, p.whole.boards)) (omega (arith, p.whole.boards)) (omega (arith, p.whole.relations)))
+
+      -- too many kind lines
+      pub kinds_over : g.relations.lines ≤ most_lines → most_kinds < g.kinds.lines → refuse 1 2 room ≡ from_text text room
+      kinds_over few over =
+          told
+          (many_kinds p.v p.rs p.ks room (omega (arith, p.whole.boards)) (omega (arith, p.whole.boards)) (omega (arith, p.whole.relations))
+          (omega (arith, p.whole.panels)))
+
+    -- neither: what was gathered is joined, and read
+    module _ (few_relations : g.relations.lines ≤ most_lines) (few_kinds : g.kinds.lines ≤ most_kinds) (i : length ws ≡ most_words) (j : length kinds ≡ kinds_room) where
+      few_relation_lines : length p.rs ≤ most_lines
+      few_relation_lines = omega (arith, p.whole.relations)
+
+      few_kind_lines : length p.ks ≤ most_kinds
+      few_kind_lines = omega (arith, p.whole.panels)
+
+      pub joining : Joins ws kinds g
+      joining = joins p.whole few_relation_lines few_kind_lines p.relation_lines_lem p.kind_lines_lem i j
+
+      pub joined_told : {after : List ℕ} {total : ℕ} → Joined ws kinds g after total
+          → given (read (take total after)) room (λ s. in_room (take total after) room) ≡ from_text text room
+      joined_told q = told (joined_read p.whole few_relation_lines few_kind_lines p.relation_lines_lem p.kind_lines_lem i j q room)

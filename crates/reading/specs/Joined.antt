@@ -6,18 +6,18 @@ use Rattle.text_lines.specs.declared.Gathered.{Gathered}
 
 -- the header of what was gathered
 abbrev pub header : Gathered → ℕ → List ℕ
-header g total = g.boards ∷ g.relations ∷ g.kinds ∷ 6 ∷ g.next ∷ total ∷ []
+header g total = g.boards ∷ g.relations.lines ∷ g.kinds.lines ∷ 6 ∷ g.relations.end ∷ total ∷ []
 
 -- what was gathered can be joined
 pub record Joins (words kinds : List ℕ) (g : Gathered) : Type 0 where
   pub words_room : length words ≡ most_words
-  pub few_relations : g.relations ≤ most_lines
-  pub few_kinds : g.kinds ≤ most_kinds
-  pub begins : 6 ≤ g.next
-  pub inside : g.last ≤ length kinds
-  pub room : g.next + g.last ≤ most_words
+  pub few_relations : g.relations.lines ≤ most_lines
+  pub few_kinds : g.kinds.lines ≤ most_kinds
+  pub begins : 6 ≤ g.relations.end
+  pub inside : g.kinds.end ≤ length kinds
+  pub room : g.relations.end + g.kinds.end ≤ most_words
 
 -- the header stands before the words of the relation lines, and those of the kind lines after them
 pub record Joined (before kinds : List ℕ) (g : Gathered) (after : List ℕ) (total : ℕ) : Type 0 where
-  pub count : total ≡ g.next + g.last
-  pub words : after ≡ sets (sets before 0 (header g total)) g.next (take g.last kinds)
+  pub count : total ≡ g.relations.end + g.kinds.end
+  pub words : after ≡ sets (sets before 0 (header g total)) g.relations.end (take g.kinds.end kinds)

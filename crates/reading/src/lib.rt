@@ -12,46 +12,42 @@ ghost use Rattle.reading.specs.Joined.{header, Joins, Joined};
 use answers::limits::{HEADER_WORDS, MOST_BOARDS, MOST_KINDS, MOST_LINES};
 use answers::refusals::{NO_ROOM, NO_SHEET, OUT_OF_RANGE};
 use answers::rooms::words_room;
-use answers::widths::word_number;
 use answers::{Answer, refuse, succeed};
 use taken::put_words;
 use text_lines::{Gathered, gather, kinds_room};
-
-// The largest count of an answer.
-const MOST_COUNT: usize = 4294967295;
 
 // A line's number as a count: the largest one where it is larger.
 fn line_count(line: usize) -> u32
     ensures { result ≡ min line most_count }
 {
-    if MOST_COUNT < line {
-        return MOST_COUNT as u32;
-    }
-    line as u32
+    u32::try_from(line).unwrap_or(u32::MAX)
 }
 
-// Puts the header of a description at the front of its words.
-fn put_header(words: &mut [u16], lines: Gathered, total: usize)
-    requires { (6 ≤ length words.old) × (total < 65536) × (lines.next < 65536) × (lines.relations < 65536) × (lines.kinds < 65536) }
-    ensures { words.new ≡ sets words.old 0 (header lines total) }
+// The header of a description with so many words.
+fn header(lines: Gathered, total: usize) -> [u16; HEADER_WORDS]
+    requires { (total < 65536) × (lines.relations.end < 65536) × (lines.relations.lines < 65536) × (lines.kinds.lines < 65536) }
+    ensures { result ≡ header lines total }
 {
-    words[0] = lines.boards;
-    words[1] = lines.relations as u16;
-    words[2] = lines.kinds as u16;
-    words[3] = HEADER_WORDS as u16;
-    words[4] = lines.next as u16;
-    words[5] = total as u16;
+    [
+        lines.boards,
+        lines.relations.lines as u16,
+        lines.kinds.lines as u16,
+        HEADER_WORDS as u16,
+        lines.relations.end as u16,
+        total as u16,
+    ]
 }
 
 // Joins what was gathered: the header goes before the words of the relation lines, those of the kind lines after them. Answers how many words there are.
 fn join(words: &mut [u16], kinds: &[u16], lines: Gathered) -> usize
     requires { Joins words.old kinds.now lines }
-    ensures { Joined words.old kinds.now lines words.new result }
+    ensures joined { Joined words.old kinds.now lines words.new result }
+    ensures few { result ≤ most_words }
 {
-    let next = lines.next;
-    let last = lines.last;
+    let next = lines.relations.end;
+    let last = lines.kinds.end;
     let total = next + last;
-    put_header(words, lines, total);
+    put_words(words, 0, &header(lines, total));
     put_words(words, next, &kinds[..last]);
     total
 }
@@ -76,24 +72,23 @@ fn hand_over(words: &[u16], room: &mut [u16]) -> Answer
 // Reads a typed sheet: the words of its description go to the front of the lent room, and the answer has how many they are. Refuses the first
 // malformed line with 20 and its number, then the words made with 1 to 5 and 11, and the place in these, then a room that is too small with 19; and then leaves
 // the room as it came.
-#[tactic(auto, using(crate::proofs::Making::lines_over))]
+#[tactic(auto, using(crate::proofs::Making::stopped_at, crate::proofs::Making::boards_out, crate::proofs::Making::lines_over, crate::proofs::Making::kinds_over))]
 pub fn from_text(text: &[u8], room: &mut [u16]) -> Answer
     ensures { outcome result room.new ≡ from_text text.now room.old }
 {
     let mut words = words_room();
     let mut kinds = kinds_room();
-    let lines = gather(text, &mut words, &mut kinds);
-    if lines.fault != 0 {
-        return refuse(NO_SHEET, line_count(lines.fault));
-    }
-    let boards = word_number(lines.boards);
-    if boards < 1 || MOST_BOARDS < boards {
+    let lines = match gather(text, &mut words, &mut kinds) {
+        Ok(lines) => lines,
+        Err(line) => return refuse(NO_SHEET, line_count(line)),
+    };
+    if !(1..=MOST_BOARDS).contains(&usize::from(lines.boards)) {
         return refuse(OUT_OF_RANGE, 0);
     }
-    if MOST_LINES < lines.relations {
+    if MOST_LINES < lines.relations.lines {
         return refuse(OUT_OF_RANGE, 1);
     }
-    if MOST_KINDS < lines.kinds {
+    if MOST_KINDS < lines.kinds.lines {
         return refuse(OUT_OF_RANGE, 2);
     }
     let total = join(&mut words, &kinds, lines);

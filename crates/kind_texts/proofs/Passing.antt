@@ -1,15 +1,23 @@
 -- The ways of a line, passed one after the other up to the closing parenthesis. Assumes nothing.
 use mathlib.Core.Path.{◌≡◌, refl, sym, ap, ◌∙◌, subst}
-use mathlib.Core.Bool.{Bool, false}
+use mathlib.Core.Bool.{Bool}
 use mathlib.Core.List.{List, [], ◌∷◌, ◌++◌, append_assoc, append-nil}
-use Prim.Native.Nat.{ℕ, ◌≤◌, ◌<◌}
+use Prim.Native.Nat.{ℕ}
+use Rattle.std.specs.Bool.{then_some}
+use Rattle.std.proofs.Common.{Option, None, Some}
 use Rattle.typed.specs.Symbols.{Symbol}
 use Rattle.typed.specs.Sheets.{Ways, no_ways, ways, way_before, at_end, ways_of}
+use Rattle.symbols.specs.declared.Symbol.{Symbol as Mark}
+use Rattle.symbols.specs.declared.Symbol.TheVariants.{Number, RightParen}
 use Rattle.symbols.specs.declared.Token.{Token}
 use Rattle.symbols.proofs.Steps.{Stepped}
-use Rattle.kind_texts.specs.Listing.{none, Holds, Keeps, Came}
-use Rattle.kind_texts.proofs.Keeping.{holds_none}
-use Rattle.kind_texts.proofs.Moves.{from, way_read, right_read, way_missing}
+use Rattle.kind_texts.specs.declared.Ways.{Ways as Kept}
+use Rattle.kind_texts.specs.Listing.{none, Holds, Keeps}
+use Rattle.kind_texts.specs.Ways.{Came}
+use Rattle.kind_texts.proofs.Moves.{from, way_read, right_read, way_other, way_none}
+
+holds_none : (room : List ℕ) → Holds [] room 0
+holds_none room = record { count = refl; kept = λ few. refl }
 
 -- these ways put before the others
 abbrev pub ways_after : List ℕ → Ways → Ways
@@ -33,32 +41,39 @@ pub record Passed (line : List ℕ) (at next : ℕ) (room : List ℕ) (n : ℕ) 
 pub passed_none : (line : List ℕ) (at : ℕ) (room : List ℕ) → Passed line at at room 0
 passed_none line at room = record { passed = []; whole = after_none (ways_of (from line at)); held = holds_none room }
 
-module _ (line : List ℕ) (at next : ℕ) (room : List ℕ) (n : ℕ) (p : Passed line at next room n) (t : Token) (s : Stepped line next t) where
-  -- another way
-  pub passed_more : t.symbol < 65536 → (room' : List ℕ) (n' : ℕ) → Keeps t.symbol room n room' n' → Passed line at t.next room' n'
-  passed_more h room' n' k =
-      record {
-        passed = p.passed ++ (t.symbol ∷ []);
-        whole =
-            p.whole ∙ ap (ways_after p.passed) (way_read line next t s h)
-            ∙ after_more p.passed t.symbol (ways_of (from line t.next));
-        held = k p.passed p.held;
-      }
+module _ {line : List ℕ} {at next : ℕ} {room : List ℕ} {n : ℕ} (p : Passed line at next room n) {t : Token} (s : Stepped line next t) where
+  -- what is left of the ways
+  left : {w : Ways} → ways_of (from line next) ≡ w → ways_of (from line at) ≡ ways_after p.passed w
+  left e = p.whole ∙ ap (ways_after p.passed) e
 
   -- no way, nor the end of them
-  pub passed_bad : 65536 ≤ t.symbol → (t.symbol ≡ 65539 → ⊥) → Came (ways_of (from line at)) room (record { good = false; count = n })
-  passed_bad h f =
-      let e : ways_of (from line at) ≡ no_ways = p.whole ∙ ap (ways_after p.passed) (way_missing line next t s h f) in
-      subst (λ (w : Ways). Came w room (record { good = false; count = n })) (sym e) refl
+  bad : ways_of (from line next) ≡ no_ways → {r : Option Kept} → r ≡ None → Came (ways_of (from line at)) r
+  bad e {r} h = subst (λ (w : Ways). Came w r) (sym (left e)) h
 
-  -- the end of the ways: nothing may follow
-  pub passed_end : t.symbol ≡ 65539 → (b : Bool) → b ≡ none (from line t.next)
-      → Came (ways_of (from line at)) room (record { good = b; count = n })
-  passed_end h b e =
-      let i : ways_of (from line at) ≡ ways_after p.passed (at_end (from line t.next)) =
-      p.whole ∙ ap (ways_after p.passed) (right_read line next t s h) in
-      subst (λ (w : Ways). Came w room (record { good = b; count = n })) (sym i) (go (from line t.next) e)
-    where
-      go : (ss : List Symbol) → b ≡ none ss → Came (ways_after p.passed (at_end ss)) room (record { good = b; count = n })
-      go [] e = (e, rw append-nil p.held)
-      go (x ∷ ss) e = e
+  pub passed_none_left : t.symbol ≡ None → {r : Option Kept} → r ≡ None → Came (ways_of (from line at)) r
+  passed_none_left e = bad (way_none line next s e)
+
+  module _ {x : Mark} (h : t.symbol ≡ Some x) where
+    pub passed_bad : ((m : ℕ) → x ≡ Number m → ⊥) → (x ≡ RightParen → ⊥) → Came (ways_of (from line at)) None
+    passed_bad f g = bad (way_other line next s h f g) refl
+
+    -- another way
+    pub passed_more : {y : ℕ} → x ≡ Number y → (room' : List ℕ) (n' : ℕ) → Keeps y room n room' n' → Passed line at t.next room' n'
+    passed_more {y} e room' n' k =
+        record {
+          passed = p.passed ++ (y ∷ []);
+          whole = left (way_read line next s h e) ∙ after_more p.passed y (ways_of (from line t.next));
+          held = k p.passed p.held;
+        }
+
+    -- the end of the ways: nothing may follow
+    pub passed_end : x ≡ RightParen → (w : Kept) → w.kept ≡ room → w.count ≡ n → {b : Bool} → b ≡ none (from line t.next) → {r : Option Kept} → r ≡ then_some b w
+        → Came (ways_of (from line at)) r
+    passed_end e w i j {b} z {r} q = subst (λ (v : Ways). Came v r) (sym (left (right_read line next s h e))) (subst (Came (ways_after p.passed (at_end (from line t.next)))) (sym q) (go (from line t.next) z))
+      where
+        held : Holds p.passed w.kept w.count
+        held = subst (λ (k : List ℕ). Holds p.passed k w.count) (sym i) (subst (Holds p.passed room) (sym j) p.held)
+
+        go : (ss : List Symbol) → b ≡ none ss → Came (ways_after p.passed (at_end ss)) (then_some b w)
+        go [] z = subst (λ (c : Bool). Came (ways_after p.passed (ways [])) (then_some c w)) (sym z) (rw append-nil held)
+        go (y ∷ ss) z = ap (λ (c : Bool). then_some c w) z

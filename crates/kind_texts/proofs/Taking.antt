@@ -1,48 +1,71 @@
 -- What a kind line comes to: its words where its ways are well-formed, and nothing where it is malformed. Assumes nothing.
-use mathlib.Core.Path.{◌≡◌, refl, sym, subst}
-use mathlib.Core.Bool.{true, false}
+use mathlib.Core.Path.{◌≡◌, refl, sym, ◌∙◌, subst}
 use mathlib.Core.List.{List}
-use Prim.Native.Nat.{ℕ, suc, ◌≤◌}
-use native.Mathlib.Omega.{arith}
+use Prim.Native.Nat.{ℕ, ◌≤◌}
+use lib.ListN.{length}
+use Rattle.std.specs.Option.{IsSomeAnd}
+use Rattle.std.proofs.Common.{Option, None, Some}
 use Rattle.rules.specs.Descriptions.{most_ways}
 use Rattle.rules.proofs.Tests.{clash}
-use Rattle.typed.specs.Sheets.{Ways, no_ways, ways, Line, malformed_line, kind_of}
-use Rattle.taken.specs.declared.Taken.{Taken}
+use Rattle.typed.specs.Sheets.{Ways, no_ways, ways, ways_of, Line, malformed_line, kind_of, listed_of, code_of}
+use Rattle.symbols.specs.declared.Symbol.{Symbol as Mark}
+use Rattle.symbols.specs.declared.Symbol.TheVariants.{LeftParen, Number}
+use Rattle.symbols.specs.declared.Token.{Token}
+use Rattle.symbols.specs.Tokens.{token}
+use Rattle.symbols.proofs.Steps.{Stepped, stepped}
 use Rattle.taken.specs.Lines.{Took}
-use Rattle.kind_texts.specs.declared.Listed.{Listed}
-use Rattle.kind_texts.specs.Listing.{Came, Puts}
+use Rattle.kind_texts.specs.declared.Ways.{Ways as Kept}
+use Rattle.kind_texts.specs.Listing.{Holds, Puts}
+use Rattle.kind_texts.specs.Ways.{Came}
+use Rattle.kind_texts.proofs.Moves.{from, some_read, code_read, left_read, left_other, left_none}
 
 -- of a line that is equal the same is taken
-pub took_same : {l m : Line} {before : List ℕ} {at : ℕ} {after : List ℕ} {t : Taken} → l ≡ m → Took most_ways m before at after t
+pub took_same : {l m : Line} {before : List ℕ} {at : ℕ} {after : List ℕ} {t : Option ℕ} → l ≡ m → Took most_ways m before at after t
     → Took most_ways l before at after t
 took_same {before} {at} {after} {t} e h = subst (λ (l : Line). Took most_ways l before at after t) (sym e) h
 
 -- a malformed line leaves the words as they came
-pub took_none : {l : Line} (ws : List ℕ) (at : ℕ) → l ≡ malformed_line → Took most_ways l ws at ws (record { good = false; next = at })
-took_none ws at e = took_same e (record { answer = refl; words = refl })
+pub took_none : {l : Line} (ws : List ℕ) (at : ℕ) → l ≡ malformed_line → {t : Option ℕ} → t ≡ None → Took most_ways l ws at ws t
+took_none ws at e {t} q = took_same e (record { answer = q; words = refl })
 
-module _ (w : Ways) (room : List ℕ) (r : Listed) (came : Came w room r) where
-  -- they are counted up to one too many
-  pub came_few : r.good ≡ true → r.count ≤ suc most_ways
-  came_few g = go w came
+-- the ways are malformed, and so is the line; or the words of the line with its ways are put
+module _ (w : Ways) {r : Option Kept} (came : Came w r) (p c : ℕ) where
+  pub came_none : r ≡ None → kind_of p c w ≡ malformed_line
+  came_none e = go w came
     where
-      go : (w : Ways) → Came w room r → r.count ≤ suc most_ways
-      go no_ways h = clash (cc)
-      go (ways ys) h = omega (arith, h.1.count)
-
-  -- the ways are malformed, and so is the line
-  pub came_none : r.good ≡ false → (p c : ℕ) → kind_of p c w ≡ malformed_line
-  came_none g p c = go w came
-    where
-      go : (w : Ways) → Came w room r → kind_of p c w ≡ malformed_line
+      go : (w : Ways) → Came w r → kind_of p c w ≡ malformed_line
       go no_ways h = refl
-      go (ways ys) h = clash (cc h.0)
+      go (ways ys) h = absurd (subst (λ (o : Option Kept). IsSomeAnd o (λ k. Holds ys k.kept k.count)) e h)
 
-  -- the words of the line with its ways are put
-  pub came_all : r.good ≡ true → (p c : ℕ) {before : List ℕ} {at : ℕ} {after : List ℕ} {t : Taken} → Puts p c room r.count before at after t
-      → Took most_ways (kind_of p c w) before at after t
-  came_all g p c {before} {at} {after} {t} puts = go w came
+  pub came_all : {k : Kept} → r ≡ Some k → {before : List ℕ} {at : ℕ} {after : List ℕ} {next : ℕ} → Puts p c k.kept k.count before at after next
+      → Took most_ways (kind_of p c w) before at after (Some next)
+  came_all {k} e {before} {at} {after} {next} puts = go w came
     where
-      go : (w : Ways) → Came w room r → Took most_ways (kind_of p c w) before at after t
-      go no_ways h = clash (cc)
-      go (ways ys) h = puts ys h.1
+      go : (w : Ways) → Came w r → Took most_ways (kind_of p c w) before at after (Some next)
+      go no_ways h = clash (cc (h, e))
+      go (ways ys) h = puts ys (subst (λ (o : Option Kept). IsSomeAnd o (λ k. Holds ys k.kept k.count)) e h)
+
+-- what follows the code of a kind line: a left parenthesis, and the ways
+module _ (line : List ℕ) {at : ℕ} (h : at ≤ length line) {code : Token} (f : code ≡ token line at) {x : Mark} (g : code.symbol ≡ Some x) where
+  pub code_inside : code.next ≤ length line
+  code_inside = (some_read line at (stepped line at h f) g).inside
+
+  module _ {c : ℕ} (e : x ≡ Number c) {left : Token} (l : left ≡ token line code.next) (p : ℕ) where
+    second : Stepped line code.next left
+    second = stepped line code.next code_inside l
+
+    coded : code_of p (from line at) ≡ listed_of p c (from line code.next)
+    coded = code_read line at (stepped line at h f) g e p
+
+    pub left_ended : left.symbol ≡ None → code_of p (from line at) ≡ malformed_line
+    left_ended i = coded ∙ left_none line code.next second i p c
+
+    module _ {y : Mark} (i : left.symbol ≡ Some y) where
+      pub left_inside : left.next ≤ length line
+      left_inside = (some_read line code.next second i).inside
+
+      pub left_wrong : (y ≡ LeftParen → ⊥) → code_of p (from line at) ≡ malformed_line
+      left_wrong j = coded ∙ left_other line code.next second i j p c
+
+      pub left_right : y ≡ LeftParen → code_of p (from line at) ≡ kind_of p c (ways_of (from line left.next))
+      left_right j = coded ∙ left_read line code.next second i j p c

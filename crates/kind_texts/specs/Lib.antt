@@ -1,2 +1,3 @@
 -- A typed kind line, as the code has it.
 pub mod Listing
+pub mod Ways

@@ -1,11 +1,9 @@
 -- The ways of a kind line as the code has them: those so far are kept in a room for as many as there may be, and counted. Assumes nothing.
-use Rattle.std.specs.Prelude.{◌≡◌, Bool, true, false, List, [], ◌∷◌, ◌++◌, ℕ, suc, ◌≤◌, min, length, take}
+use Rattle.std.specs.Prelude.{◌≡◌, Bool, true, false, List, [], ◌∷◌, ◌++◌, ℕ, suc, ◌≤◌, min, length, take, Some}
 use Rattle.rules.specs.Descriptions.{most_ways}
 use Rattle.typed.specs.Symbols.{Symbol}
-use Rattle.typed.specs.Sheets.{Ways, no_ways, ways, kind_words}
-use Rattle.taken.specs.declared.Taken.{Taken}
+use Rattle.typed.specs.Sheets.{kind_words}
 use Rattle.taken.specs.Lines.{Took}
-use Rattle.kind_texts.specs.declared.Listed.{Listed}
 
 -- no symbol is left
 abbrev pub none : List Symbol → Bool
@@ -21,11 +19,6 @@ pub record Holds (ys room : List ℕ) (n : ℕ) : Type 0 where
 abbrev pub Keeps : ℕ → List ℕ → ℕ → List ℕ → ℕ → Type 0
 Keeps y room n room' n' = (ys : List ℕ) → Holds ys room n → Holds (ys ++ (y ∷ [])) room' n'
 
--- what the ways came to
-abbrev pub Came : Ways → List ℕ → Listed → Type 0
-Came no_ways room r = r.good ≡ false
-Came (ways ys) room r = (r.good ≡ true) × Holds ys room r.count
-
--- the words of the line with the ways that are held
-abbrev pub Puts : ℕ → ℕ → List ℕ → ℕ → List ℕ → ℕ → List ℕ → Taken → Type 0
-Puts p c room n before at after t = (ys : List ℕ) → Holds ys room n → Took most_ways (kind_words (p ∷ c ∷ length ys ∷ ys)) before at after t
+-- the words of the line with the ways that are held go to the words from a place on, and the next place is after them
+abbrev pub Puts : ℕ → ℕ → List ℕ → ℕ → List ℕ → ℕ → List ℕ → ℕ → Type 0
+Puts p c room n before at after next = (ys : List ℕ) → Holds ys room n → Took most_ways (kind_words (p ∷ c ∷ length ys ∷ ys)) before at after (Some next)

@@ -4,6 +4,4 @@ use Rattle.kind_texts.proofs.Moves.{none_read}
 use Rattle.kind_texts.proofs.ends.Goals as goal
 
 pub returns : goal.returns
-returns c =
-    let line = c.args.line.now in
-    none_read line c.args.at _ (stepped line c.args.at c.requires c.symbol_at-token.ensures)
+returns c = none_read _ _ (stepped c.args.line.now c.args.at c.requires c.symbol_at.ensures) _ c.is_none.ensures

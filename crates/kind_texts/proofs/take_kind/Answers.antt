@@ -1,65 +1,41 @@
 -- `take_kind` meets its contract: a number, the code, and a left parenthesis come before the ways. Assumes nothing.
-use mathlib.Core.Path.{◌≡◌, ◌∙◌}
-use Prim.Native.Nat.{◌≤◌}
-use native.Mathlib.Omega.{arith}
-use lib.ListN.{length}
-use Rattle.typed.specs.Sheets.{listed_of, code_of}
-use Rattle.symbols.specs.declared.Token.{Token}
-use Rattle.symbols.proofs.Steps.{Stepped, stepped}
-use Rattle.kind_texts.proofs.Moves.{from, some_read, code_read, code_missing, left_read, left_missing}
-use Rattle.kind_texts.proofs.Taking.{took_same, took_none}
-use Rattle.kind_texts.proofs.take_kind.Tie as tie
-use Rattle.kind_texts.proofs.take_kind.Lts as lts
-use Rattle.kind_texts.proofs.take_kind.Reads as reads
+use mathlib.Core.Path.{refl}
+use borrow.Author.Rules.{rules}
+use Rattle.symbols.proofs.Steps.{stepped}
+use Rattle.kind_texts.proofs.Moves.{code_other, code_none}
+use Rattle.kind_texts.proofs.Taking.{took_same, took_none, came_none, came_all, code_inside, left_ended, left_inside, left_wrong, left_right}
 use Rattle.kind_texts.proofs.take_kind.Goals as goal
 
--- what the first symbol says of the line
-first : (c : lts.After-symbol_at tie.the-claims reads.Pre reads.Post) → Stepped c.args.line.now c.args.at c.symbol_at-first.result
-first c =
-    stepped c.args.line.now c.args.at c.requires.0 c.symbol_at-first.ensures
+pub returns-in_err-code : goal.returns-in_err-code
+returns-in_err-code c = took_none _ _ (code_none _ _ (stepped _ _ c.requires.0 c.symbol_at-first.ensures) c.in_err-code.was c.args.board) (search rules)
 
-pub returns-then-code-ge-BOARDS : goal.returns-then-code-ge-BOARDS
-returns-then-code-ge-BOARDS c =
-    took_none c.args.words.now c.args.next (code_missing _ _ _ (first c.before.before) c.if-code-ge-BOARDS.true c.args.board)
-
--- the place after the code, which is a number
-inside : (c : lts.Else1 tie.the-claims reads.Pre reads.Post) → c.symbol_at-first.result.next ≤ length c.args.line.now
-inside c = (some_read _ _ _ (first c.before) (λ e. let z : ⊥ = omega (arith, c.if-code-ge-BOARDS.false) in z)).inside
+pub returns-in_default : goal.returns-in_default
+returns-in_default c = took_none _ _ (code_other _ _ (stepped _ _ c.requires.0 c.symbol_at-first.ensures) c.in_ok-code.was c.in_default.not-Number c.args.board) refl
 
 pub symbol_at-left-requires : goal.symbol_at-left-requires
-symbol_at-left-requires c = inside c.before
+symbol_at-left-requires c = code_inside c.args.line.now c.requires.0 c.symbol_at-first.ensures c.in_ok-code.was
 
--- where the function begins, seen from the second symbol; and what the first one was read as
-abbrev start : lts.After-symbol_at2 tie.the-claims reads.Pre reads.Post → lts.Start tie.the-claims reads.Pre reads.Post
-start c = c.before.before.before.before.before
+pub returns-in_err-left : goal.returns-in_err-left
+returns-in_err-left c =
+    took_none _ _ (left_ended c.args.line.now c.requires.0 c.symbol_at-first.ensures c.in_ok-code.was c.in-Number.is c.symbol_at-left.ensures c.args.board c.in_err-left.was) (search rules)
 
-abbrev code : lts.After-symbol_at2 tie.the-claims reads.Pre reads.Post → Token
-code c = c.symbol_at-first.result
+pub returns-in_default-2 : goal.returns-in_default-2
+returns-in_default-2 c =
+    took_none _ _
+    (left_wrong c.args.line.now c.requires.0 c.symbol_at-first.ensures c.in_ok-code.was c.in-Number.is c.symbol_at-left.ensures c.args.board c.in_ok-left.was c.in_default-2.not-LeftParen)
+    refl
 
--- what the second symbol says of the line
-second : (c : lts.After-symbol_at2 tie.the-claims reads.Pre reads.Post) → Stepped (start c).args.line.now (code c).next c.symbol_at-left.result
-second c = stepped (start c).args.line.now (code c).next (inside c.before) c.symbol_at-left.ensures
+pub list-requires : goal.list-requires
+list-requires c = left_inside c.args.line.now c.requires.0 c.symbol_at-first.ensures c.in_ok-code.was c.in-Number.is c.symbol_at-left.ensures c.args.board c.in_ok-left.was
 
--- the line after its code
-coded : (c : lts.After-symbol_at2 tie.the-claims reads.Pre reads.Post)
-    → code_of (start c).args.board (from (start c).args.line.now (start c).args.at)
-    ≡ listed_of (start c).args.board (code c).symbol (from (start c).args.line.now (code c).next)
-coded c = code_read _ _ _ (first c.before.before) c.if-code-ge-BOARDS.false (start c).args.board
-
-pub returns-then-left-ne-LEFT_PAREN : goal.returns-then-left-ne-LEFT_PAREN
-returns-then-left-ne-LEFT_PAREN c =
-    let here = c.before.before.before in
-    took_none (start here).args.words.now (start here).args.next
-    (coded here ∙ left_missing _ _ _ (second here) c.if-left-ne-LEFT_PAREN.true (start here).args.board (code here).symbol)
-
-pub take_ways-requires : goal.take_ways-requires
-take_ways-requires c =
-    let here = c.before.before.before.before in
-    ((some_read _ _ _ (second here) (λ e. let z : ⊥ = omega (arith, c.if-left-ne-LEFT_PAREN.false) in z)).inside, (start here).requires.1)
+pub returns-in_err-ways : goal.returns-in_err-ways
+returns-in_err-ways c =
+    took_same
+    (left_right c.args.line.now c.requires.0 c.symbol_at-first.ensures c.in_ok-code.was c.in-Number.is c.symbol_at-left.ensures c.args.board c.in_ok-left.was c.in-LeftParen.is)
+    (took_none _ _ (came_none _ c.list.ensures _ _ c.in_err-ways.was) (search rules))
 
 pub returns : goal.returns
 returns c =
-    let here = c.before.before.before.before.before.before.before in
     took_same
-    (coded here ∙ left_read _ _ _ (second here) c.if-left-ne-LEFT_PAREN.false (start here).args.board (code here).symbol)
-    c.take_ways.ensures
+    (left_right c.args.line.now c.requires.0 c.symbol_at-first.ensures c.in_ok-code.was c.in-Number.is c.symbol_at-left.ensures c.args.board c.in_ok-left.was c.in-LeftParen.is)
+    (came_all _ c.list.ensures _ _ c.in_ok-ways.was c.put.ensures)

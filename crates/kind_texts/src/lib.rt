@@ -13,6 +13,7 @@ use symbols::{Symbol, symbol_at};
 use taken::{put_start, put_words};
 
 // The ways of a line: as many as there may be are kept, and they are counted up to one too many.
+// Stays: a count beside the words, since it goes to one more than there is room for.
 #[derive(Clone, Copy, Debug, PartialEq, Eq)]
 struct Ways {
     kept: [u16; MOST_WAYS],

@@ -1,95 +1,105 @@
 -- What the first line says, from the symbols that are read of it. Assumes nothing.
 use mathlib.Core.Path.{◌≡◌, refl, sym, ap, ◌∙◌, subst}
-use mathlib.Core.Bool.{Bool, true, false}
+use mathlib.Core.Bool.{Bool, not}
 use mathlib.Core.List.{List, [], ◌∷◌}
-use Prim.Native.Nat.{ℕ, ◌≤◌, ◌<◌}
+use Prim.Native.Nat.{ℕ, ◌≤◌}
 use native.Mathlib.Omega.{arith}
-use borrow.Author.Tests.{eq-eqb, ne_eqb}
-use lib.Dec.{eqb}
-use Rattle.std.proofs.Common.{None, Some}
-use Rattle.rules.proofs.Tests.{clash}
-use Rattle.typed.specs.Symbols.{Symbol, symbols, boards, colon, left_paren, right_paren, unknown, word, number, is_boards, if_number}
-use Rattle.typed.specs.Sheets.{First, no_boards, boards_of, boards_in, first_of}
+use lib.ListN.{length}
+use Rattle.std.specs.Bool.{then_some}
+use Rattle.std.specs.Option.{is_some}
+use Rattle.std.proofs.Common.{Option, None, Some}
+use Rattle.typed.specs.Symbols.{Symbol, symbols, number}
+use Rattle.typed.specs.Sheets.{First, no_boards, boards_in, first_of}
+use Rattle.symbols.specs.declared.Symbol.{Symbol as Mark}
+use Rattle.symbols.specs.declared.Symbol.TheVariants.{Boards, Colon, LeftParen, RightParen, Unknown, Word, Number}
 use Rattle.symbols.specs.declared.Token.{Token}
-use Rattle.symbols.specs.Tokens.{no_symbol, token}
-use Rattle.symbols.proofs.Steps.{Stepped, ends, steps, stepped}
-use Rattle.symbols.proofs.Marks.{OfSymbol, number_only, no_mark}
-use Rattle.kind_texts.proofs.Moves.{from}
-use Rattle.text_lines.specs.Lines.{Opens}
+use Rattle.symbols.specs.Tokens.{told, token}
+use Rattle.symbols.proofs.Steps.{Stepped, stepped}
+use Rattle.kind_texts.specs.Listing.{none}
+use Rattle.kind_texts.proofs.Moves.{from, some_read, none_read, ended, begun}
+use Rattle.text_lines.specs.Lines.{Opens, AfterBoards}
 
-module _ (n : ℕ) where
-  -- the symbol with a number is the word `boards` where the number is that word's
-  is_boards_lem : OfSymbol n (λ s. is_boards s ≡ eqb n 65536)
-  is_boards_lem boards t q = sym (eq-eqb n 65536 q)
-  is_boards_lem colon t q = sym (ne_eqb n 65536 (λ e. omega arith))
-  is_boards_lem left_paren t q = sym (ne_eqb n 65536 (λ e. omega arith))
-  is_boards_lem right_paren t q = sym (ne_eqb n 65536 (λ e. omega arith))
-  is_boards_lem unknown t q = sym (ne_eqb n 65536 (λ e. omega arith))
-  is_boards_lem (word k) t q = sym (ne_eqb n 65536 (λ e. omega arith))
-  is_boards_lem (number m) t q = sym (ne_eqb n 65536 (λ e. omega arith))
+-- another symbol than the word `boards`, or than a number
+no_word : (x : Mark) (ss : List Symbol) → (x ≡ Boards → ⊥) → first_of (told x ∷ ss) ≡ no_boards
+unfolding first_of
+no_word Boards ss f = absurd (f refl)
+no_word Colon ss f = refl
+no_word LeftParen ss f = refl
+no_word RightParen ss f = refl
+no_word Unknown ss f = refl
+no_word (Word k) ss f = refl
+no_word (Number n) ss f = refl
 
-  -- a symbol above all numbers is none
-  pub no_number : 65536 ≤ n → {X : Type 0} (f : ℕ → X) (x : X) → OfSymbol n (λ s. if_number s f x ≡ x)
-  no_number h f x boards t q = refl
-  no_number h f x colon t q = refl
-  no_number h f x left_paren t q = refl
-  no_number h f x right_paren t q = refl
-  no_number h f x unknown t q = refl
-  no_number h f x (word k) t q = refl
-  no_number h f x (number m) t q = clash (omega arith)
+no_number : (x : Mark) (ss : List Symbol) → ((n : ℕ) → x ≡ Number n → ⊥) → boards_in (told x ∷ ss) ≡ no_boards
+unfolding boards_in
+no_number x (s ∷ ss) f = refl
+no_number Boards [] f = refl
+no_number Colon [] f = refl
+no_number LeftParen [] f = refl
+no_number RightParen [] f = refl
+no_number Unknown [] f = refl
+no_number (Word k) [] f = refl
+no_number (Number n) [] f = absurd (f n refl)
 
--- the first line after a symbol that is the word `boards` or not
-after_word : Bool → List Symbol → First
-after_word b ss = elim b [ true ↦ boards_in ss | false ↦ no_boards ]
+-- ---- the word `boards`
 
-module _ (line : List ℕ) (at : ℕ) (t : Token) where
-  -- the word `boards` comes before the number of boards
-  pub word_read : Stepped line at t → t.symbol ≡ 65536 → first_of (from line at) ≡ boards_in (from line t.next)
-  unfolding first_of after_word
-  word_read (ends e i) h = clash (omega (arith, e))
-  word_read (steps s m e i l k) h =
-      ap first_of i ∙ ap (λ (b : Bool). after_word b (from line t.next)) (is_boards_lem t.symbol s m e ∙ eq-eqb t.symbol 65536 h)
+module _ (line : List ℕ) {word : Token} (w : word ≡ token line 0) where
+  first : Stepped line 0 word
+  first = stepped line 0 (omega arith) w
 
-  pub word_missing : Stepped line at t → (t.symbol ≡ 65536 → ⊥) → first_of (from line at) ≡ no_boards
-  unfolding first_of after_word
-  word_missing (ends e i) h = ap first_of i
-  word_missing (steps s m e i l k) h =
-      ap first_of i ∙ ap (λ (b : Bool). after_word b (from line t.next)) (is_boards_lem t.symbol s m e ∙ ne_eqb t.symbol 65536 h)
+  pub after_nothing : word.symbol ≡ None → {r : Option ℕ} → r ≡ None → AfterBoards line r
+  unfolding first_of
+  after_nothing h e = subst (AfterBoards line) (sym e) (ap first_of (ended line 0 first h))
 
-  -- a number is the number of boards
-  pub number_read : Stepped line at t → t.symbol < 65536 → boards_in (from line at) ≡ boards_in (number t.symbol ∷ from line t.next)
-  number_read (ends e i) h = clash (omega (arith, e))
-  number_read (steps s m e i l k) h =
-      ap boards_in i ∙ ap (λ (x : Symbol). boards_in (x ∷ from line t.next)) (number_only t.symbol h s m e)
+  module _ {x : Mark} (h : word.symbol ≡ Some x) where
+    pub after_other : (x ≡ Boards → ⊥) → AfterBoards line None
+    after_other f = ap first_of (begun line 0 first h) ∙ no_word x (from line word.next) f
 
-  pub number_missing : Stepped line at t → 65536 ≤ t.symbol → boards_in (from line at) ≡ no_boards
-  unfolding boards_in
-  number_missing (ends e i) h = ap boards_in i
-  number_missing (steps s m e i l k) h = ap boards_in i ∙ go (from line t.next)
-    where
-      go : (ss : List Symbol) → boards_in (s ∷ ss) ≡ no_boards
-      go [] = no_number t.symbol h boards_of no_boards s m e
-      go (x ∷ ss) = refl
+    pub after_word : x ≡ Boards → AfterBoards line (Some word.next)
+    unfolding first_of
+    after_word e =
+        ((some_read line 0 first h).inside, ap first_of (begun line 0 first h ∙ ap (λ (y : Mark). told y ∷ from line word.next) e))
 
-  -- nothing may follow it
-  pub end_read : Stepped line at t → t.symbol ≡ no_symbol → (v : ℕ) → boards_in (number v ∷ from line at) ≡ boards_of v
-  unfolding boards_in
-  end_read (ends e i) h v = ap (λ (ss : List Symbol). boards_in (number v ∷ ss)) i
-  end_read (steps s m e i l k) h v = absurd (no_mark t.symbol h s m e)
+-- ---- the number of boards
 
-  pub end_missing : Stepped line at t → (t.symbol ≡ no_symbol → ⊥) → (v : ℕ) → boards_in (number v ∷ from line at) ≡ no_boards
-  unfolding boards_in
-  end_missing (ends e i) h v = absurd (h e)
-  end_missing (steps s m e i l k) h v = ap (λ (ss : List Symbol). boards_in (number v ∷ ss)) i
+-- a first line that is malformed
+opens_none : {f : First} → f ≡ no_boards → {r : Option ℕ} → r ≡ None → Opens f r
+opens_none e {r} h = subst (λ (f : First). Opens f r) (sym e) h
 
--- the first line is malformed
-pub opens_none : {f : First} → f ≡ no_boards → Opens f None
-opens_none e = subst (λ (f : First). Opens f None) (sym e) refl
+module _ (line : List ℕ) {a : Option ℕ} (o : AfterBoards line a) where
+  pub opens_without : a ≡ None → {r : Option ℕ} → r ≡ None → Opens (first_of (symbols line)) r
+  opens_without e = opens_none (subst (AfterBoards line) e o)
 
--- it does not begin with the word `boards`
-pub opens_without : (line : List ℕ) (t : Token) → t ≡ token line 0 → (t.symbol ≡ 65536 → ⊥) → Opens (first_of (symbols line)) None
-opens_without line t e h = opens_none (word_missing line 0 t (stepped line 0 (omega arith) e) h)
+  module _ {at : ℕ} (e : a ≡ Some at) where
+    after : AfterBoards line (Some at)
+    after = subst (AfterBoards line) e o
 
--- it says how many boards there are
-pub opens_some : {f : First} (v : ℕ) → f ≡ boards_of v → Opens f (Some v)
-opens_some v e = subst (λ (f : First). Opens f (Some v)) (sym e) refl
+    pub after_inside : at ≤ length line
+    after_inside = after.0
+
+    module _ {count : Token} (n : count ≡ token line at) where
+      second : Stepped line at count
+      second = stepped line at after_inside n
+
+      pub opens_nothing : count.symbol ≡ None → {r : Option ℕ} → r ≡ None → Opens (first_of (symbols line)) r
+      unfolding boards_in
+      opens_nothing h = opens_none (after.1 ∙ ap boards_in (ended line at second h))
+
+      module _ {x : Mark} (h : count.symbol ≡ Some x) where
+        pub number_inside : count.next ≤ length line
+        number_inside = (some_read line at second h).inside
+
+        pub opens_other : ((v : ℕ) → x ≡ Number v → ⊥) → Opens (first_of (symbols line)) None
+        opens_other f = opens_none (after.1 ∙ ap boards_in (begun line at second h) ∙ no_number x (from line count.next) f) refl
+
+        -- nothing may follow it
+        pub opens_number : {v : ℕ} → x ≡ Number v → {end : Token} → end ≡ token line count.next → (b : Bool) → is_some end.symbol ≡ not b → {r : Option ℕ} → r ≡ then_some b v
+            → Opens (first_of (symbols line)) r
+        unfolding boards_in
+        opens_number {v} q {end} m b i {r} j =
+            subst (λ (f : First). Opens f r) (sym (after.1 ∙ ap boards_in (begun line at second h ∙ ap (λ (y : Mark). told y ∷ from line count.next) q)))
+            (subst (Opens (boards_in (number v ∷ from line count.next))) (sym j) (go (from line count.next) (none_read line count.next (stepped line count.next number_inside m) b i)))
+          where
+            go : (ss : List Symbol) → b ≡ none ss → Opens (boards_in (number v ∷ ss)) (then_some b v)
+            go [] z = ap (λ (c : Bool). then_some c v) z
+            go (s ∷ ss) z = ap (λ (c : Bool). then_some c v) z

@@ -6,13 +6,13 @@ ghost use Rattle.rules.specs.Descriptions.{most_words};
 ghost use Rattle.typed.specs.Symbols.{symbols};
 ghost use Rattle.typed.specs.Grammar.{lines_of};
 ghost use Rattle.typed.specs.Sheets.{first_of, line_of, lines_from};
-ghost use Rattle.text_lines.specs.Lines.{Splits, Opens, LineTook, Countable, counted, counted_with};
+ghost use Rattle.text_lines.specs.Lines.{Splits, Opens, AfterBoards, LineTook, Countable, counted, counted_with, next_line};
 ghost use Rattle.text_lines.specs.Gatherings.{parts_of, sheet_parts, kinds_room, Gathers};
 
 use answers::limits::{HEADER_WORDS, LINE_WORDS, MOST_KINDS, MOST_LINES, MOST_WAYS};
 use kind_texts::take_kind;
 use relation_texts::take_relation;
-use symbols::{BOARDS, COLON, NO_SYMBOL, symbol_at};
+use symbols::{Symbol, symbol_at};
 
 // A line after the first, and the place after its words.
 #[derive(Clone, Copy, Debug, PartialEq, Eq)]
@@ -61,11 +61,23 @@ impl Gathered {
             TakenLine::Kind(end) => self.kinds.count(end, MOST_KINDS),
         }
     }
+
+    // The number of the next line: the first one says how many boards there are.
+    fn next_line(&self) -> usize
+        requires { next_line self.now < 18446744073709551616 }
+        ensures { result ≡ next_line self.now }
+    {
+        self.relations.lines + self.kinds.lines + 2
+    }
 }
+
+// The number of the first line.
+const FIRST_LINE: usize = 1;
 
 // Room for the words of one kind line more than there may be.
 const KINDS_ROOM: usize = (MOST_KINDS + 1) * (LINE_WORDS + MOST_WAYS);
 
+// Stays: a function and no constant, since `kinds_room_determined` and an edit speak of it.
 pub fn kinds_room() -> [u16; KINDS_ROOM]
     ensures { result ≡ replicate kinds_room 0 }
 {
@@ -82,27 +94,34 @@ fn split_line(text: &[u8]) -> (&[u8], &[u8])
     }
 }
 
+// The place after the word `boards` that the first line begins with.
+fn after_boards(line: &[u8]) -> Option<usize>
+    ensures { AfterBoards line.now result }
+{
+    let word = symbol_at(line, 0);
+    match word.symbol? {
+        Symbol::Boards => Some(word.next),
+        _ => None,
+    }
+}
+
 // The number of boards that the first line says, unless it is malformed.
-#[tactic(auto, using(crate::proofs::Opening::opens_without))]
 fn open_line(line: &[u8]) -> Option<u16>
     ensures { Opens (first_of (symbols line.now)) result }
 {
-    let word = symbol_at(line, 0);
-    if word.symbol != BOARDS {
+    let at = after_boards(line)?;
+    let number = symbol_at(line, at);
+    let Symbol::Number(boards) = number.symbol? else {
         return None;
-    }
-    let number = symbol_at(line, word.next);
-    if BOARDS <= number.symbol {
-        return None;
-    }
-    let end = symbol_at(line, number.next);
-    if end.symbol != NO_SYMBOL {
-        return None;
-    }
-    Some(number.symbol as u16)
+    };
+    symbol_at(line, number.next)
+        .symbol
+        .is_none()
+        .then_some(boards)
 }
 
 // Takes a line after the first, unless it is malformed: its words go to those of its sort, from a place on.
+// Stays: the lent words and the place in them are apart, since what is gathered has the places alone.
 fn take_line(
     line: &[u8],
     words: &mut [u16],
@@ -114,25 +133,14 @@ fn take_line(
     ensures { LineTook (line_of (symbols line.now)) words.old next kinds.old last words.new kinds.new result }
 {
     let board = symbol_at(line, 0);
-    let number = board.symbol;
-    if BOARDS <= number {
+    let Symbol::Number(number) = board.symbol? else {
         return None;
-    }
+    };
     let mark = symbol_at(line, board.next);
-    if mark.symbol == COLON {
-        let taken = take_kind(line, mark.next, number as u16, kinds, last);
-        return if taken.good {
-            Some(TakenLine::Kind(taken.next))
-        } else {
-            None
-        };
+    if mark.symbol == Some(Symbol::Colon) {
+        return take_kind(line, mark.next, number, kinds, last).map(TakenLine::Kind);
     }
-    let taken = take_relation(line, board.next, number as u16, words, next);
-    if taken.good {
-        Some(TakenLine::Relation(taken.next))
-    } else {
-        None
-    }
+    take_relation(line, board.next, number, words, next).map(TakenLine::Relation)
 }
 
 // Gathers the words of the lines after the first, or answers the number of the first malformed line.
@@ -154,14 +162,11 @@ fn gather_from(
         kinds: Section { lines: 0, end: 0 },
     };
     let mut rest = text;
-    let mut done: usize = 1;
     while !rest.is_empty() {
         let (line, after) = split_line(rest);
-        let next = gathered.relations.end;
-        let last = gathered.kinds.end;
-        let taken = take_line(line, words, next, kinds, last).ok_or(done + 1)?;
+        let (next, last) = (gathered.relations.end, gathered.kinds.end);
+        let taken = take_line(line, words, next, kinds, last).ok_or(gathered.next_line())?;
         gathered.count(taken);
-        done += 1;
         rest = after;
     }
     Ok(gathered)
@@ -173,6 +178,6 @@ pub fn gather(text: &[u8], words: &mut [u16], kinds: &mut [u16]) -> Result<Gathe
     ensures { Gathers (sheet_parts (lines_of text.now)) words.new kinds.new result }
 {
     let (first, rest) = split_line(text);
-    let boards = open_line(first).ok_or(1usize)?;
+    let boards = open_line(first).ok_or(FIRST_LINE)?;
     gather_from(rest, boards, words, kinds)
 }

@@ -1,41 +1,33 @@
 -- `take_line` meets its contract: a board comes first, and a colon after it makes a kind line. Assumes nothing.
 use borrow.Author.Rules.{rules}
-use Rattle.text_lines.proofs.Sorting.{board_none, board_inside, mark_inside, line_kind, line_relation, none_took, sorted_some, sorted_none, kind_took, relation_took}
-use Rattle.text_lines.specs.declared.TakenLine.TheVariants.{Relation, Kind}
+use Rattle.text_lines.proofs.Sorting.{took_nothing, took_other, board_inside, colon_inside, line_kind, line_relation, kind_took, relation_took}
 use Rattle.text_lines.proofs.take_line.Goals as goal
 
-pub returns-then-number-ge-BOARDS : goal.returns-then-number-ge-BOARDS
-returns-then-number-ge-BOARDS c = none_took _ _ _ _ (board_none _ _ c.symbol_at-board.ensures c.if-number-ge-BOARDS.true)
+pub returns-in_err-number : goal.returns-in_err-number
+returns-in_err-number c = took_nothing _ c.symbol_at-board.ensures c.in_err-number.was _ _ _ _ (search rules)
+
+pub returns-in_default : goal.returns-in_default
+returns-in_default c = took_other _ c.symbol_at-board.ensures c.in_ok-number.was c.in_default.not-Number _ _ _ _
 
 pub symbol_at-mark-requires : goal.symbol_at-mark-requires
-symbol_at-mark-requires c = board_inside _ _ c.symbol_at-board.ensures c.if-number-ge-BOARDS.false
+symbol_at-mark-requires c = board_inside _ c.symbol_at-board.ensures c.in_ok-number.was
 
 -- ---- a kind line
 
-pub take_kind-taken-requires : goal.take_kind-taken-requires
-take_kind-taken-requires c = (mark_inside _ _ c.symbol_at-board.ensures c.if-number-ge-BOARDS.false _ c.symbol_at-mark.ensures c.if-mark-eq-COLON.true, search rules)
+pub take_kind-requires : goal.take_kind-requires
+take_kind-requires c =
+    (colon_inside _ c.symbol_at-board.ensures c.in_ok-number.was c.in-Number.is c.symbol_at-mark.ensures (search rules), search rules)
 
-pub returns-then-taken : goal.returns-then-taken
-returns-then-taken c =
-    kind_took _ _ _ (line_kind _ _ c.symbol_at-board.ensures c.if-number-ge-BOARDS.false _ c.symbol_at-mark.ensures c.if-mark-eq-COLON.true) _ _ c.take_kind-taken.ensures
-    (sorted_some Kind _ c.if-taken.true)
-
-pub returns-else-taken : goal.returns-else-taken
-returns-else-taken c =
-    kind_took _ _ _ (line_kind _ _ c.symbol_at-board.ensures c.if-number-ge-BOARDS.false _ c.symbol_at-mark.ensures c.if-mark-eq-COLON.true) _ _ c.take_kind-taken.ensures
-    (sorted_none Kind _ c.if-taken.false)
+pub returns-then-eq : goal.returns-then-eq
+returns-then-eq c =
+    kind_took _ _ (line_kind _ c.symbol_at-board.ensures c.in_ok-number.was c.in-Number.is c.symbol_at-mark.ensures (search rules)) _ _ c.take_kind.ensures (search rules)
 
 -- ---- a relation line
 
-pub take_relation-taken-requires : goal.take_relation-taken-requires
-take_relation-taken-requires c = (board_inside _ _ c.symbol_at-board.ensures c.if-number-ge-BOARDS.false, search rules)
+pub take_relation-requires : goal.take_relation-requires
+take_relation-requires c = (board_inside _ c.symbol_at-board.ensures c.in_ok-number.was, search rules)
 
-pub returns-then-taken-2 : goal.returns-then-taken-2
-returns-then-taken-2 c =
-    relation_took _ _ _ (line_relation _ _ c.symbol_at-board.ensures c.if-number-ge-BOARDS.false _ c.symbol_at-mark.ensures c.if-mark-eq-COLON.false) _ _ c.take_relation-taken.ensures
-    (sorted_some Relation _ c.if-taken-2.true)
-
-pub returns-else-taken-2 : goal.returns-else-taken-2
-returns-else-taken-2 c =
-    relation_took _ _ _ (line_relation _ _ c.symbol_at-board.ensures c.if-number-ge-BOARDS.false _ c.symbol_at-mark.ensures c.if-mark-eq-COLON.false) _ _ c.take_relation-taken.ensures
-    (sorted_none Relation _ c.if-taken-2.false)
+pub returns : goal.returns
+returns c =
+    relation_took _ _ (line_relation _ c.symbol_at-board.ensures c.in_ok-number.was c.in-Number.is c.symbol_at-mark.ensures (λ e. search rules)) _ _ c.take_relation.ensures
+    (search rules)

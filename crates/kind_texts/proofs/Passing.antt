@@ -67,9 +67,11 @@ module _ {line : List ℕ} {at next : ℕ} {room : List ℕ} {n : ℕ} (p : Pass
         }
 
     -- the end of the ways: nothing may follow
-    pub passed_end : x ≡ RightParen → (w : Kept) → w.kept ≡ room → w.count ≡ n → {b : Bool} → b ≡ none (from line t.next) → {r : Option Kept} → r ≡ then_some b w
-        → Came (ways_of (from line at)) r
-    passed_end e w i j {b} z {r} q = subst (λ (v : Ways). Came v r) (sym (left (right_read line next s h e))) (subst (Came (ways_after p.passed (at_end (from line t.next)))) (sym q) (go (from line t.next) z))
+    pub passed_end : x ≡ RightParen → (w : Kept) → w.kept ≡ room → w.count ≡ n → {b : Bool} → b ≡ none (from line t.next)
+        → {r : Option Kept} → r ≡ then_some b w → Came (ways_of (from line at)) r
+    passed_end e w i j {b} z {r} q =
+        subst (λ (v : Ways). Came v r) (sym (left (right_read line next s h e)))
+        (subst (Came (ways_after p.passed (at_end (from line t.next)))) (sym q) (go (from line t.next) z))
       where
         held : Holds p.passed w.kept w.count
         held = subst (λ (k : List ℕ). Holds p.passed k w.count) (sym i) (subst (Holds p.passed room) (sym j) p.held)

@@ -141,7 +141,8 @@ module _ {v : ℕ} {rs ks : List (List ℕ)} {ws kinds : List ℕ} {g : Gathered
               let b : g.kinds.lines ≡ length (map (brief most_ways) ks) = w.panels ∙ sym (length-map ks (brief most_ways)) in
               let t : total ≡ 6 + length relation_part + length kind_part = omega (arith, j.count, relations_stored.place, kinds_stored.place) in
               ap (λ (x : ℕ). six x g.relations.lines g.kinds.lines g.relations.end total) w.boards
-              ∙ ap (λ (x : ℕ). six v x g.kinds.lines g.relations.end total) a ∙ ap (λ (x : ℕ). six v (length (map (brief most_expression_words) rs)) x g.relations.end total) b
+              ∙ ap (λ (x : ℕ). six v x g.kinds.lines g.relations.end total) a
+              ∙ ap (λ (x : ℕ). six v (length (map (brief most_expression_words) rs)) x g.relations.end total) b
               ∙ ap (λ (x : ℕ). six v (length (map (brief most_expression_words) rs)) (length (map (brief most_ways) ks)) x total) relations_stored.place
               ∙ ap (six v (length (map (brief most_expression_words) rs)) (length (map (brief most_ways) ks)) (6 + length relation_part)) t
 

@@ -36,7 +36,8 @@ module _ {text line rest : List ℕ} (s : Splits text line rest) where
 
   module _ (r : Option ℕ) (o : Opens (first_of (symbols line)) r) where
     -- the first line is malformed
-    pub first_fault : {e : ℕ} → ok_or r 1 ≡ Err e → (words kinds : List ℕ) {g : Result Gathered ℕ} → g ≡ Err e → Gathers (sheet_parts (lines_of text)) words kinds g
+    pub first_fault : {e : ℕ} → ok_or r 1 ≡ Err e → (words kinds : List ℕ) {g : Result Gathered ℕ} → g ≡ Err e
+        → Gathers (sheet_parts (lines_of text)) words kinds g
     first_fault {e} q words kinds {g} p = go (first_of (symbols line)) refl o
       where
         go : (x : First) → first_of (symbols line) ≡ x → Opens x r → Gathers (sheet_parts (lines_of text)) words kinds g

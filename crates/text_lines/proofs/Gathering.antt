@@ -137,9 +137,12 @@ module _ {text : List ℕ} {v : ℕ} {words kinds rest : List ℕ} {c : Gathered
 
     module _ (words' kinds' : List ℕ) where
       -- it is malformed
-      pub gathering_fault : (r : Option TakenLine) → LineTook (line_of (symbols line)) words c.relations.end kinds c.kinds.end words' kinds' r → {e : ℕ} → ok_or r (next_line c) ≡ Err e → {o : Result Gathered ℕ} → o ≡ Err e
+      pub gathering_fault : (r : Option TakenLine) → LineTook (line_of (symbols line)) words c.relations.end kinds c.kinds.end words' kinds' r → {e : ℕ}
+          → ok_or r (next_line c) ≡ Err e → {o : Result Gathered ℕ} → o ≡ Err e
           → Gathers (parts_of v (lines_from 2 (lines_of text))) words' kinds' o
-      gathering_fault r t {e} q {o} p = let n = none_refused r (next_line c) q in subst (Gathers (parts_of v (lines_from 2 (lines_of text))) words' kinds') (sym (p ∙ ap Err n.1)) (go (line_of (symbols line)) refl t n.0)
+      gathering_fault r t {e} q {o} p =
+          let n = none_refused r (next_line c) q in
+          subst (Gathers (parts_of v (lines_from 2 (lines_of text))) words' kinds') (sym (p ∙ ap Err n.1)) (go (line_of (symbols line)) refl t n.0)
         where
           go : (x : Line) → line_of (symbols line) ≡ x → LineTook x words c.relations.end kinds c.kinds.end words' kinds' r
               → r ≡ None → Gathers (parts_of v (lines_from 2 (lines_of text))) words' kinds' (Err (next_line c))
@@ -158,8 +161,8 @@ module _ {text : List ℕ} {v : ℕ} {words kinds rest : List ℕ} {c : Gathered
             → lines_from 2 (lines_of text) ≡ lines_after g.rs g.ks (line_before (next_line c) x (lines_from n (lines_of rest')))
         rest_left x d n e = next_left x d ∙ ap (λ (j : ℕ). lines_after g.rs g.ks (line_before (next_line c) x (lines_from j (lines_of rest')))) (sym e)
 
-        with_relation : (w : List ℕ) → line_of (symbols line) ≡ relation_words w → words' ≡ sets words c.relations.end (brief most_expression_words w) → kinds' ≡ kinds
-            → On (Relation (c.relations.end + length (brief most_expression_words w)))
+        with_relation : (w : List ℕ) → line_of (symbols line) ≡ relation_words w → words' ≡ sets words c.relations.end (brief most_expression_words w)
+            → kinds' ≡ kinds → On (Relation (c.relations.end + length (brief most_expression_words w)))
         with_relation w d e f =
             let i : IsLine w = relation_made_line (symbols line) w d in
             record {
@@ -174,10 +177,16 @@ module _ {text : List ℕ} {v : ℕ} {words kinds rest : List ℕ} {c : Gathered
               relations = omega (arith, g.relations, length-append g.rs (w ∷ []));
               panels = g.panels;
               relation_words_lem =
-                  subst (λ (j : ℕ). Stored most_expression_words 6 words' (moved_on (ltb j most_lines) (c.relations.end + length (brief most_expression_words w)) c.relations.end) (take most_lines (g.rs ++ (w ∷ []))))
+                  subst
+                  (λ (j : ℕ).
+                  Stored most_expression_words 6 words'
+                  (moved_on (ltb j most_lines) (c.relations.end + length (brief most_expression_words w)) c.relations.end)
+                  (take most_lines (g.rs ++ (w ∷ []))))
                   (sym g.relations) (stored_next most_lines g.rs g.relation_words_lem i room_left.0 e refl);
               kind_words_lem = subst (λ (us : List ℕ). Stored most_ways 0 us c.kinds.end (take most_kinds g.ks)) (sym f) g.kind_words_lem;
-              left = rest_left (relation_words w) d (next_line (counted_with c (Relation 0))) (omega arith) ∙ after_relation g.rs g.ks (next_line c) w (lines_from (next_line (counted_with c (Relation 0))) (lines_of rest'));
+              left =
+                  let n = next_line (counted_with c (Relation 0)) in
+                  rest_left (relation_words w) d n (omega arith) ∙ after_relation g.rs g.ks (next_line c) w (lines_from n (lines_of rest'));
             }
 
         with_kind : (w : List ℕ) → line_of (symbols line) ≡ kind_words w → kinds' ≡ sets kinds c.kinds.end (brief most_ways w) → words' ≡ words
@@ -197,13 +206,18 @@ module _ {text : List ℕ} {v : ℕ} {words kinds rest : List ℕ} {c : Gathered
               panels = omega (arith, g.panels, length-append g.ks (w ∷ []));
               relation_words_lem = subst (λ (us : List ℕ). Stored most_expression_words 6 us c.relations.end (take most_lines g.rs)) (sym f) g.relation_words_lem;
               kind_words_lem =
-                  subst (λ (j : ℕ). Stored most_ways 0 kinds' (moved_on (ltb j most_kinds) (c.kinds.end + length (brief most_ways w)) c.kinds.end) (take most_kinds (g.ks ++ (w ∷ []))))
+                  subst
+                  (λ (j : ℕ).
+                  Stored most_ways 0 kinds' (moved_on (ltb j most_kinds) (c.kinds.end + length (brief most_ways w)) c.kinds.end)
+                  (take most_kinds (g.ks ++ (w ∷ []))))
                   (sym g.panels) (stored_next most_kinds g.ks g.kind_words_lem i room_left.1 e refl);
-              left = rest_left (kind_words w) d (next_line (counted_with c (Kind 0))) (omega arith) ∙ after_kind g.rs g.ks (next_line c) w (lines_from (next_line (counted_with c (Kind 0))) (lines_of rest'));
+              left =
+                  let n = next_line (counted_with c (Kind 0)) in
+                  rest_left (kind_words w) d n (omega arith) ∙ after_kind g.rs g.ks (next_line c) w (lines_from n (lines_of rest'));
             }
 
-        pub gathering_on : (r : Option TakenLine) → LineTook (line_of (symbols line)) words c.relations.end kinds c.kinds.end words' kinds' r → (l : TakenLine) → ok_or r (next_line c) ≡ Ok l → {c' : Gathered}
-            → c' ≡ counted_with c l → Gathering text v words' kinds' rest' c'
+        pub gathering_on : (r : Option TakenLine) → LineTook (line_of (symbols line)) words c.relations.end kinds c.kinds.end words' kinds' r → (l : TakenLine)
+            → ok_or r (next_line c) ≡ Ok l → {c' : Gathered} → c' ≡ counted_with c l → Gathering text v words' kinds' rest' c'
         gathering_on r t l p e = subst (Gathering text v words' kinds' rest') (sym e) (go (line_of (symbols line)) refl t)
           where
             q : r ≡ Some l
@@ -211,5 +225,9 @@ module _ {text : List ℕ} {v : ℕ} {words kinds rest : List ℕ} {c : Gathered
 
             go : (x : Line) → line_of (symbols line) ≡ x → LineTook x words c.relations.end kinds c.kinds.end words' kinds' r → On l
             go malformed_line d t = clash (cc (t, q))
-            go (relation_words w) d t = let m : Relation (c.relations.end + length (brief most_expression_words w)) ≡ l = cc (t.0, q) in subst On m (with_relation w d t.1 t.2)
-            go (kind_words w) d t = let m : Kind (c.kinds.end + length (brief most_ways w)) ≡ l = cc (t.0, q) in subst On m (with_kind w d t.1 t.2)
+            go (relation_words w) d t =
+                let m : Relation (c.relations.end + length (brief most_expression_words w)) ≡ l = cc (t.0, q) in
+                subst On m (with_relation w d t.1 t.2)
+            go (kind_words w) d t =
+                let m : Kind (c.kinds.end + length (brief most_ways w)) ≡ l = cc (t.0, q) in
+                subst On m (with_kind w d t.1 t.2)

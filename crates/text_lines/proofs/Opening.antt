@@ -93,12 +93,13 @@ module _ (line : List ℕ) {a : Option ℕ} (o : AfterBoards line a) where
         opens_other f = opens_none (after.1 ∙ ap boards_in (begun line at second h) ∙ no_number x (from line count.next) f) refl
 
         -- nothing may follow it
-        pub opens_number : {v : ℕ} → x ≡ Number v → {end : Token} → end ≡ token line count.next → (b : Bool) → is_some end.symbol ≡ not b → {r : Option ℕ} → r ≡ then_some b v
-            → Opens (first_of (symbols line)) r
+        pub opens_number : {v : ℕ} → x ≡ Number v → {end : Token} → end ≡ token line count.next → (b : Bool) → is_some end.symbol ≡ not b
+            → {r : Option ℕ} → r ≡ then_some b v → Opens (first_of (symbols line)) r
         unfolding boards_in
         opens_number {v} q {end} m b i {r} j =
             subst (λ (f : First). Opens f r) (sym (after.1 ∙ ap boards_in (begun line at second h ∙ ap (λ (y : Mark). told y ∷ from line count.next) q)))
-            (subst (Opens (boards_in (number v ∷ from line count.next))) (sym j) (go (from line count.next) (none_read line count.next (stepped line count.next number_inside m) b i)))
+            (subst (Opens (boards_in (number v ∷ from line count.next))) (sym j)
+            (go (from line count.next) (none_read line count.next (stepped line count.next number_inside m) b i)))
           where
             go : (ss : List Symbol) → b ≡ none ss → Opens (boards_in (number v ∷ ss)) (then_some b v)
             go [] z = ap (λ (c : Bool). then_some c v) z

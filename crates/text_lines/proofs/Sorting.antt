@@ -54,7 +54,8 @@ module _ (line : List ℕ) {board : Token} (b : board ≡ token line 0) where
   first : Stepped line 0 board
   first = stepped line 0 (omega arith) b
 
-  pub took_nothing : board.symbol ≡ None → (ws : List ℕ) (n : ℕ) (ks : List ℕ) (k : ℕ) {r : Option TakenLine} → r ≡ None → LineTook (line_of (symbols line)) ws n ks k ws ks r
+  pub took_nothing : board.symbol ≡ None → (ws : List ℕ) (n : ℕ) (ks : List ℕ) (k : ℕ) {r : Option TakenLine} → r ≡ None
+      → LineTook (line_of (symbols line)) ws n ks k ws ks r
   unfolding line_of
   took_nothing h ws n ks k = none_took ws n ks k (ap line_of (ended line 0 first h))
 

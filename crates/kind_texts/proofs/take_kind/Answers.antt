@@ -17,25 +17,30 @@ symbol_at-left-requires c = code_inside c.args.line.now c.requires.0 c.symbol_at
 
 pub returns-in_err-left : goal.returns-in_err-left
 returns-in_err-left c =
-    took_none _ _ (left_ended c.args.line.now c.requires.0 c.symbol_at-first.ensures c.in_ok-code.was c.in-Number.is c.symbol_at-left.ensures c.args.board c.in_err-left.was) (search rules)
+    took_none _ _ (left_ended c.args.line.now c.requires.0 c.symbol_at-first.ensures c.in_ok-code.was c.in-Number.is c.symbol_at-left.ensures
+    c.args.board c.in_err-left.was) (search rules)
 
 pub returns-in_default-2 : goal.returns-in_default-2
 returns-in_default-2 c =
     took_none _ _
-    (left_wrong c.args.line.now c.requires.0 c.symbol_at-first.ensures c.in_ok-code.was c.in-Number.is c.symbol_at-left.ensures c.args.board c.in_ok-left.was c.in_default-2.not-LeftParen)
+    (left_wrong c.args.line.now c.requires.0 c.symbol_at-first.ensures c.in_ok-code.was c.in-Number.is c.symbol_at-left.ensures
+    c.args.board c.in_ok-left.was c.in_default-2.not-LeftParen)
     refl
 
 pub list-requires : goal.list-requires
-list-requires c = left_inside c.args.line.now c.requires.0 c.symbol_at-first.ensures c.in_ok-code.was c.in-Number.is c.symbol_at-left.ensures c.args.board c.in_ok-left.was
+list-requires c = left_inside c.args.line.now c.requires.0 c.symbol_at-first.ensures c.in_ok-code.was c.in-Number.is c.symbol_at-left.ensures
+    c.args.board c.in_ok-left.was
 
 pub returns-in_err-ways : goal.returns-in_err-ways
 returns-in_err-ways c =
     took_same
-    (left_right c.args.line.now c.requires.0 c.symbol_at-first.ensures c.in_ok-code.was c.in-Number.is c.symbol_at-left.ensures c.args.board c.in_ok-left.was c.in-LeftParen.is)
+    (left_right c.args.line.now c.requires.0 c.symbol_at-first.ensures c.in_ok-code.was c.in-Number.is c.symbol_at-left.ensures
+    c.args.board c.in_ok-left.was c.in-LeftParen.is)
     (took_none _ _ (came_none _ c.list.ensures _ _ c.in_err-ways.was) (search rules))
 
 pub returns : goal.returns
 returns c =
     took_same
-    (left_right c.args.line.now c.requires.0 c.symbol_at-first.ensures c.in_ok-code.was c.in-Number.is c.symbol_at-left.ensures c.args.board c.in_ok-left.was c.in-LeftParen.is)
+    (left_right c.args.line.now c.requires.0 c.symbol_at-first.ensures c.in_ok-code.was c.in-Number.is c.symbol_at-left.ensures
+    c.args.board c.in_ok-left.was c.in-LeftParen.is)
     (came_all _ c.list.ensures _ _ c.in_ok-ways.was c.put.ensures)

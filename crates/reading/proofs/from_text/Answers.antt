@@ -13,7 +13,7 @@ use Rattle.reading.proofs.from_text.Goals as goal
 pub returns-then-not-contains : goal.returns-then-not-contains
 returns-then-not-contains c =
     ap (λ (a : Answer). outcome a c.args.room.now) c.refuse-then-not-contains.ensures
-    ∙ boards_out _ _ _ _ c.gather.ensures c.in-Ok.is c.args.room.now (λ low high. let h = c.contains.ensures.cases in let g = c.contains.ensures.value in grind (arith, common_steps))
+    ∙ boards_out _ _ _ _ c.gather.ensures c.in-Ok.is c.args.room.now (λ low high. grind (arith, common_steps))
 
 pub join-total-requires : goal.join-total-requires
 join-total-requires c =

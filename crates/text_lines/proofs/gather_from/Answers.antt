@@ -27,7 +27,8 @@ loop-rest-preserved c =
     let some : 1 ≤ length c.loop-rest.rest.now = some_left c.loop-rest.rest.now c.loop-rest-test.ensures in
     let e : ok_or c.take_line.result (next_line c.loop-rest.gathered) ≡ Ok c.in_ok-taken.taken =
     ap (ok_or c.take_line.result) (sym c.next_line.ensures) ∙ sym c.ok_or.ensures.value ∙ c.in_ok-taken.was in
-    gathering_on c.loop-rest.invariant some c.split_line.ensures c.take_line.new.words c.take_line.new.kinds c.take_line.auto.words c.take_line.auto.kinds _ c.take_line.ensures _ e c.count.ensures
+    gathering_on c.loop-rest.invariant some c.split_line.ensures c.take_line.new.words c.take_line.new.kinds c.take_line.auto.words
+    c.take_line.auto.kinds _ c.take_line.ensures _ e c.count.ensures
 
 pub returns : goal.returns
 returns c = gathering_end c.loop-rest.invariant (none_left c.loop-rest.rest.now c.loop-rest-test.ensures)

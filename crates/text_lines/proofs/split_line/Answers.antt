@@ -8,11 +8,13 @@ use Rattle.text_lines.proofs.split_line.Goals as goal
 pub returns-in-Some : goal.returns-in-Some
 returns-in-Some c =
     splits_feed c.args.text.now
-    (IsFirst-from_position _ _ _ IsFeed IsOther c.position.ensures.ran (YieldsList-from_slice c.args.text.now cc) (λ x q k. search (rules, tests)) (λ x q k. search (rules, tests)))
+    (IsFirst-from_position _ _ _ IsFeed IsOther c.position.ensures.ran (YieldsList-from_slice c.args.text.now cc) (λ x q k. search (rules, tests))
+    (λ x q k. search (rules, tests)))
     c.in-Some.is
 
 pub returns-in-None : goal.returns-in-None
 returns-in-None c =
     splits_end c.args.text.now
-    (IsFirst-from_position _ _ _ IsFeed IsOther c.position.ensures.ran (YieldsList-from_slice c.args.text.now cc) (λ x q k. search (rules, tests)) (λ x q k. search (rules, tests)))
+    (IsFirst-from_position _ _ _ IsFeed IsOther c.position.ensures.ran (YieldsList-from_slice c.args.text.now cc) (λ x q k. search (rules, tests))
+    (λ x q k. search (rules, tests)))
     c.in-None.is

@@ -4,13 +4,13 @@ use mathlib.Core.Bool.{Bool}
 use mathlib.Core.List.{List, [], ◌∷◌, ◌++◌, append_assoc, append-nil}
 use Prim.Native.Nat.{ℕ}
 use Rattle.std.specs.Bool.{then_some}
-use Rattle.std.proofs.Common.{Option, None, Some}
+use Rattle.std.proofs.Common.{Option, None}
 use Rattle.typed.specs.Symbols.{Symbol}
 use Rattle.typed.specs.Sheets.{Ways, no_ways, ways, way_before, at_end, ways_of}
 use Rattle.symbols.specs.declared.Symbol.{Symbol as Mark}
 use Rattle.symbols.specs.declared.Symbol.TheVariants.{Number, RightParen}
 use Rattle.symbols.specs.declared.Token.{Token}
-use Rattle.symbols.proofs.Steps.{Stepped}
+use Rattle.symbols.proofs.Steps.{Next}
 use Rattle.kind_texts.specs.declared.Ways.{Ways as Kept}
 use Rattle.kind_texts.specs.Listing.{none, Holds, Keeps}
 use Rattle.kind_texts.specs.Ways.{Came}
@@ -41,7 +41,7 @@ pub record Passed (line : List ℕ) (at next : ℕ) (room : List ℕ) (n : ℕ) 
 pub passed_none : (line : List ℕ) (at : ℕ) (room : List ℕ) → Passed line at at room 0
 passed_none line at room = record { passed = []; whole = after_none (ways_of (from line at)); held = holds_none room }
 
-module _ {line : List ℕ} {at next : ℕ} {room : List ℕ} {n : ℕ} (p : Passed line at next room n) {t : Token} (s : Stepped line next t) where
+module _ {line : List ℕ} {at next : ℕ} {room : List ℕ} {n : ℕ} (p : Passed line at next room n) where
   -- what is left of the ways
   left : {w : Ways} → ways_of (from line next) ≡ w → ways_of (from line at) ≡ ways_after p.passed w
   left e = p.whole ∙ ap (ways_after p.passed) e
@@ -50,19 +50,19 @@ module _ {line : List ℕ} {at next : ℕ} {room : List ℕ} {n : ℕ} (p : Pass
   bad : ways_of (from line next) ≡ no_ways → {r : Option Kept} → r ≡ None → Came (ways_of (from line at)) r
   bad e {r} h = subst (λ (w : Ways). Came w r) (sym (left e)) h
 
-  pub passed_none_left : t.symbol ≡ None → {r : Option Kept} → r ≡ None → Came (ways_of (from line at)) r
-  passed_none_left e = bad (way_none line next s e)
+  pub passed_none_left : from line next ≡ [] → {r : Option Kept} → r ≡ None → Came (ways_of (from line at)) r
+  passed_none_left e = bad (way_none e)
 
-  module _ {x : Mark} (h : t.symbol ≡ Some x) where
+  module _ {t : Token} {x : Mark} (s : Next line next t x) where
     pub passed_bad : ((m : ℕ) → x ≡ Number m → ⊥) → (x ≡ RightParen → ⊥) → Came (ways_of (from line at)) None
-    passed_bad f g = bad (way_other line next s h f g) refl
+    passed_bad f g = bad (way_other s f g) refl
 
     -- another way
     pub passed_more : {y : ℕ} → x ≡ Number y → (room' : List ℕ) (n' : ℕ) → Keeps y room n room' n' → Passed line at t.next room' n'
     passed_more {y} e room' n' k =
         record {
           passed = p.passed ++ (y ∷ []);
-          whole = left (way_read line next s h e) ∙ after_more p.passed y (ways_of (from line t.next));
+          whole = left (way_read s e) ∙ after_more p.passed y (ways_of (from line t.next));
           held = k p.passed p.held;
         }
 
@@ -70,7 +70,7 @@ module _ {line : List ℕ} {at next : ℕ} {room : List ℕ} {n : ℕ} (p : Pass
     pub passed_end : x ≡ RightParen → (w : Kept) → w.kept ≡ room → w.count ≡ n → {b : Bool} → b ≡ none (from line t.next)
         → {r : Option Kept} → r ≡ then_some b w → Came (ways_of (from line at)) r
     passed_end e w i j {b} z {r} q =
-        subst (λ (v : Ways). Came v r) (sym (left (right_read line next s h e)))
+        subst (λ (v : Ways). Came v r) (sym (left (right_read s e)))
         (subst (Came (ways_after p.passed (at_end (from line t.next)))) (sym q) (go (from line t.next) z))
       where
         held : Holds p.passed w.kept w.count

@@ -1,23 +1,21 @@
 -- What a kind line comes to: its words where its ways are well-formed, and nothing where it is malformed. Assumes nothing.
 use mathlib.Core.Path.{◌≡◌, refl, sym, ◌∙◌, subst}
-use mathlib.Core.List.{List}
-use Prim.Native.Nat.{ℕ, ◌≤◌}
-use lib.ListN.{length}
+use mathlib.Core.List.{List, []}
+use Prim.Native.Nat.{ℕ}
 use Rattle.std.specs.Option.{IsSomeAnd}
 use Rattle.std.proofs.Common.{Option, None, Some}
 use Rattle.rules.specs.Descriptions.{most_ways}
 use Rattle.rules.proofs.Tests.{clash}
-use Rattle.typed.specs.Sheets.{Ways, no_ways, ways, ways_of, Line, malformed_line, kind_of, listed_of, code_of}
+use Rattle.typed.specs.Sheets.{Ways, no_ways, ways, ways_of, Line, malformed_line, kind_of, code_of}
 use Rattle.symbols.specs.declared.Symbol.{Symbol as Mark}
 use Rattle.symbols.specs.declared.Symbol.TheVariants.{LeftParen, Number}
 use Rattle.symbols.specs.declared.Token.{Token}
-use Rattle.symbols.specs.Tokens.{token}
-use Rattle.symbols.proofs.Steps.{Stepped, stepped}
+use Rattle.symbols.proofs.Steps.{Next}
 use Rattle.taken.specs.Lines.{Took}
 use Rattle.kind_texts.specs.declared.Ways.{Ways as Kept}
 use Rattle.kind_texts.specs.Listing.{Holds, Puts}
 use Rattle.kind_texts.specs.Ways.{Came}
-use Rattle.kind_texts.proofs.Moves.{from, some_read, code_read, left_read, left_other, left_none}
+use Rattle.kind_texts.proofs.Moves.{from, code_read, left_read, left_other, left_none}
 
 -- of a line that is equal the same is taken
 pub took_same : {l m : Line} {before : List ℕ} {at : ℕ} {after : List ℕ} {t : Option ℕ} → l ≡ m → Took most_ways m before at after t
@@ -46,26 +44,13 @@ module _ (w : Ways) {r : Option Kept} (came : Came w r) (p c : ℕ) where
       go (ways ys) h = puts ys (subst (λ (o : Option Kept). IsSomeAnd o (λ k. Holds ys k.kept k.count)) e h)
 
 -- what follows the code of a kind line: a left parenthesis, and the ways
-module _ (line : List ℕ) {at : ℕ} (h : at ≤ length line) {code : Token} (f : code ≡ token line at) {x : Mark} (g : code.symbol ≡ Some x) where
-  pub code_inside : code.next ≤ length line
-  code_inside = (some_read line at (stepped line at h f) g).inside
+module _ {line : List ℕ} {at : ℕ} {code : Token} {x : Mark} (n : Next line at code x) {c : ℕ} (e : x ≡ Number c) (p : ℕ) where
+  pub left_ended : from line code.next ≡ [] → code_of p (from line at) ≡ malformed_line
+  left_ended h = code_read n e p ∙ left_none h p c
 
-  module _ {c : ℕ} (e : x ≡ Number c) {left : Token} (l : left ≡ token line code.next) (p : ℕ) where
-    second : Stepped line code.next left
-    second = stepped line code.next code_inside l
+  module _ {left : Token} {y : Mark} (m : Next line code.next left y) where
+    pub left_wrong : (y ≡ LeftParen → ⊥) → code_of p (from line at) ≡ malformed_line
+    left_wrong f = code_read n e p ∙ left_other m f p c
 
-    coded : code_of p (from line at) ≡ listed_of p c (from line code.next)
-    coded = code_read line at (stepped line at h f) g e p
-
-    pub left_ended : left.symbol ≡ None → code_of p (from line at) ≡ malformed_line
-    left_ended i = coded ∙ left_none line code.next second i p c
-
-    module _ {y : Mark} (i : left.symbol ≡ Some y) where
-      pub left_inside : left.next ≤ length line
-      left_inside = (some_read line code.next second i).inside
-
-      pub left_wrong : (y ≡ LeftParen → ⊥) → code_of p (from line at) ≡ malformed_line
-      left_wrong j = coded ∙ left_other line code.next second i j p c
-
-      pub left_right : y ≡ LeftParen → code_of p (from line at) ≡ kind_of p c (ways_of (from line left.next))
-      left_right j = coded ∙ left_read line code.next second i j p c
+    pub left_right : y ≡ LeftParen → code_of p (from line at) ≡ kind_of p c (ways_of (from line left.next))
+    left_right f = code_read n e p ∙ left_read m f p c

@@ -14,9 +14,9 @@ use Rattle.symbols.specs.declared.Symbol.{Symbol as Mark}
 use Rattle.symbols.specs.declared.Symbol.TheVariants.{Boards, Colon, LeftParen, RightParen, Unknown, Word, Number}
 use Rattle.symbols.specs.declared.Token.{Token}
 use Rattle.symbols.specs.Tokens.{told, token}
-use Rattle.symbols.proofs.Steps.{Stepped, stepped}
+use Rattle.symbols.proofs.Steps.{Next, next_symbol, none_left}
 use Rattle.kind_texts.specs.Listing.{none}
-use Rattle.kind_texts.proofs.Moves.{from, some_read, none_read, ended, begun}
+use Rattle.kind_texts.proofs.Moves.{from, none_read, begun}
 use Rattle.text_lines.specs.Lines.{Opens, AfterBoards}
 
 -- another symbol than the word `boards`, or than a number
@@ -44,21 +44,20 @@ no_number (Number n) [] f = absurd (f n refl)
 -- ---- the word `boards`
 
 module _ (line : List ℕ) {word : Token} (w : word ≡ token line 0) where
-  first : Stepped line 0 word
-  first = stepped line 0 (omega arith) w
-
   pub after_nothing : word.symbol ≡ None → {r : Option ℕ} → r ≡ None → AfterBoards line r
   unfolding first_of
-  after_nothing h e = subst (AfterBoards line) (sym e) (ap first_of (ended line 0 first h))
+  after_nothing h e = subst (AfterBoards line) (sym e) (ap first_of (none_left line 0 (omega arith) w h))
 
   module _ {x : Mark} (h : word.symbol ≡ Some x) where
+    next : Next line 0 word x
+    next = next_symbol line 0 (omega arith) w x h
+
     pub after_other : (x ≡ Boards → ⊥) → AfterBoards line None
-    after_other f = ap first_of (begun line 0 first h) ∙ no_word x (from line word.next) f
+    after_other f = ap first_of next.rest ∙ no_word x (from line word.next) f
 
     pub after_word : x ≡ Boards → AfterBoards line (Some word.next)
     unfolding first_of
-    after_word e =
-        ((some_read line 0 first h).inside, ap first_of (begun line 0 first h ∙ ap (λ (y : Mark). told y ∷ from line word.next) e))
+    after_word e = (next.inside, ap first_of (begun next e))
 
 -- ---- the number of boards
 
@@ -66,41 +65,33 @@ module _ (line : List ℕ) {word : Token} (w : word ≡ token line 0) where
 opens_none : {f : First} → f ≡ no_boards → {r : Option ℕ} → r ≡ None → Opens f r
 opens_none e {r} h = subst (λ (f : First). Opens f r) (sym e) h
 
-module _ (line : List ℕ) {a : Option ℕ} (o : AfterBoards line a) where
-  pub opens_without : a ≡ None → {r : Option ℕ} → r ≡ None → Opens (first_of (symbols line)) r
-  opens_without e = opens_none (subst (AfterBoards line) e o)
+module _ (line : List ℕ) {a : Option ℕ} (o : AfterBoards line a) {at : ℕ} (e : a ≡ Some at) where
+  after : AfterBoards line (Some at)
+  after = subst (AfterBoards line) e o
 
-  module _ {at : ℕ} (e : a ≡ Some at) where
-    after : AfterBoards line (Some at)
-    after = subst (AfterBoards line) e o
+  module _ {count : Token} (n : count ≡ token line at) where
+    pub opens_nothing : count.symbol ≡ None → {r : Option ℕ} → r ≡ None → Opens (first_of (symbols line)) r
+    unfolding boards_in
+    opens_nothing h = opens_none (after.1 ∙ ap boards_in (none_left line at after.0 n h))
 
-    pub after_inside : at ≤ length line
-    after_inside = after.0
+    module _ {x : Mark} (h : count.symbol ≡ Some x) where
+      next_number : Next line at count x
+      next_number = next_symbol line at after.0 n x h
 
-    module _ {count : Token} (n : count ≡ token line at) where
-      second : Stepped line at count
-      second = stepped line at after_inside n
+      pub number_inside : count.next ≤ length line
+      number_inside = next_number.inside
 
-      pub opens_nothing : count.symbol ≡ None → {r : Option ℕ} → r ≡ None → Opens (first_of (symbols line)) r
+      pub opens_other : ((v : ℕ) → x ≡ Number v → ⊥) → Opens (first_of (symbols line)) None
+      opens_other f = opens_none (after.1 ∙ ap boards_in next_number.rest ∙ no_number x (from line count.next) f) refl
+
+      -- nothing may follow it
+      pub opens_number : {v : ℕ} → x ≡ Number v → {end : Token} → end ≡ token line count.next → (b : Bool) → is_some end.symbol ≡ not b
+          → {r : Option ℕ} → r ≡ then_some b v → Opens (first_of (symbols line)) r
       unfolding boards_in
-      opens_nothing h = opens_none (after.1 ∙ ap boards_in (ended line at second h))
-
-      module _ {x : Mark} (h : count.symbol ≡ Some x) where
-        pub number_inside : count.next ≤ length line
-        number_inside = (some_read line at second h).inside
-
-        pub opens_other : ((v : ℕ) → x ≡ Number v → ⊥) → Opens (first_of (symbols line)) None
-        opens_other f = opens_none (after.1 ∙ ap boards_in (begun line at second h) ∙ no_number x (from line count.next) f) refl
-
-        -- nothing may follow it
-        pub opens_number : {v : ℕ} → x ≡ Number v → {end : Token} → end ≡ token line count.next → (b : Bool) → is_some end.symbol ≡ not b
-            → {r : Option ℕ} → r ≡ then_some b v → Opens (first_of (symbols line)) r
-        unfolding boards_in
-        opens_number {v} q {end} m b i {r} j =
-            subst (λ (f : First). Opens f r) (sym (after.1 ∙ ap boards_in (begun line at second h ∙ ap (λ (y : Mark). told y ∷ from line count.next) q)))
-            (subst (Opens (boards_in (number v ∷ from line count.next))) (sym j)
-            (go (from line count.next) (none_read line count.next (stepped line count.next number_inside m) b i)))
-          where
-            go : (ss : List Symbol) → b ≡ none ss → Opens (boards_in (number v ∷ ss)) (then_some b v)
-            go [] z = ap (λ (c : Bool). then_some c v) z
-            go (s ∷ ss) z = ap (λ (c : Bool). then_some c v) z
+      opens_number {v} q {end} m b i {r} j =
+          subst (λ (f : First). Opens f r) (sym (after.1 ∙ ap boards_in (begun next_number q)))
+          (subst (Opens (boards_in (number v ∷ from line count.next))) (sym j) (go (from line count.next) (none_read line count.next number_inside m b i)))
+        where
+          go : (ss : List Symbol) → b ≡ none ss → Opens (boards_in (number v ∷ ss)) (then_some b v)
+          go [] z = ap (λ (c : Bool). then_some c v) z
+          go (s ∷ ss) z = ap (λ (c : Bool). then_some c v) z

@@ -15,9 +15,9 @@ use Rattle.taken.specs.Lines.{Took}
 use Rattle.symbols.specs.declared.Symbol.{Symbol as Mark}
 use Rattle.symbols.specs.declared.Symbol.TheVariants.{Boards, Colon, LeftParen, RightParen, Unknown, Word, Number}
 use Rattle.symbols.specs.declared.Token.{Token}
-use Rattle.symbols.specs.Tokens.{mark, told, token}
-use Rattle.symbols.proofs.Steps.{Stepped, ends, steps, stepped}
-use Rattle.kind_texts.proofs.Moves.{from, some_read, ended, begun}
+use Rattle.symbols.specs.Tokens.{told, token}
+use Rattle.symbols.proofs.Steps.{Next, next_symbol, none_left}
+use Rattle.kind_texts.proofs.Moves.{from, begun}
 use Rattle.text_lines.specs.declared.TakenLine.{TakenLine}
 use Rattle.text_lines.specs.declared.TakenLine.TheVariants.{Relation, Kind}
 use Rattle.text_lines.specs.Lines.{LineTook}
@@ -36,60 +36,60 @@ no_board (Word k) ss f = refl
 no_board (Number n) ss f = absurd (f n refl)
 
 -- what follows the board, where it is no colon
-no_colon : (p : ℕ) (s : Symbol) (ss : List Symbol) → (mark s ≡ Colon → ⊥) → placed_of p (s ∷ ss) ≡ relation_of p (scan 0 true (s ∷ ss))
+no_colon : (p : ℕ) (x : Mark) (ss : List Symbol) → (x ≡ Colon → ⊥) → placed_of p (told x ∷ ss) ≡ relation_of p (scan 0 true (told x ∷ ss))
 unfolding placed_of
-no_colon p boards ss f = refl
-no_colon p colon ss f = absurd (f refl)
-no_colon p left_paren ss f = refl
-no_colon p right_paren ss f = refl
-no_colon p unknown ss f = refl
-no_colon p (word k) ss f = refl
-no_colon p (number n) ss f = refl
+no_colon p Boards ss f = refl
+no_colon p Colon ss f = absurd (f refl)
+no_colon p LeftParen ss f = refl
+no_colon p RightParen ss f = refl
+no_colon p Unknown ss f = refl
+no_colon p (Word k) ss f = refl
+no_colon p (Number n) ss f = refl
 
 -- a malformed line has no words
 none_took : {l : Line} (ws : List ℕ) (n : ℕ) (ks : List ℕ) (k : ℕ) → l ≡ malformed_line → {r : Option TakenLine} → r ≡ None → LineTook l ws n ks k ws ks r
 none_took ws n ks k e {r} h = subst (λ (l : Line). LineTook l ws n ks k ws ks r) (sym e) h
 
 module _ (line : List ℕ) {board : Token} (b : board ≡ token line 0) where
-  first : Stepped line 0 board
-  first = stepped line 0 (omega arith) b
-
   pub took_nothing : board.symbol ≡ None → (ws : List ℕ) (n : ℕ) (ks : List ℕ) (k : ℕ) {r : Option TakenLine} → r ≡ None
       → LineTook (line_of (symbols line)) ws n ks k ws ks r
   unfolding line_of
-  took_nothing h ws n ks k = none_took ws n ks k (ap line_of (ended line 0 first h))
+  took_nothing h ws n ks k = none_took ws n ks k (ap line_of (none_left line 0 (omega arith) b h))
 
   module _ {x : Mark} (h : board.symbol ≡ Some x) where
+    next_board : Next line 0 board x
+    next_board = next_symbol line 0 (omega arith) b x h
+
     pub board_inside : board.next ≤ length line
-    board_inside = (some_read line 0 first h).inside
+    board_inside = next_board.inside
 
     pub took_other : ((p : ℕ) → x ≡ Number p → ⊥) → (ws : List ℕ) (n : ℕ) (ks : List ℕ) (k : ℕ) → LineTook (line_of (symbols line)) ws n ks k ws ks None
-    took_other f ws n ks k = none_took ws n ks k (ap line_of (begun line 0 first h) ∙ no_board x (from line board.next) f) refl
+    took_other f ws n ks k = none_took ws n ks k (ap line_of next_board.rest ∙ no_board x (from line board.next) f) refl
 
-    module _ {p : ℕ} (e : x ≡ Number p) {next : Token} (m : next ≡ token line board.next) where
-      second : Stepped line board.next next
-      second = stepped line board.next board_inside m
-
+    module _ {p : ℕ} (e : x ≡ Number p) {mark : Token} (m : mark ≡ token line board.next) where
       placed : line_of (symbols line) ≡ placed_of p (from line board.next)
       unfolding line_of
-      placed = ap line_of (begun line 0 first h ∙ ap (λ (y : Mark). told y ∷ from line board.next) e)
+      placed = ap line_of (begun next_board e)
 
       -- a colon after the board makes a kind line, and anything else a relation line
-      pub colon_inside : next.symbol ≡ Some Colon → next.next ≤ length line
-      colon_inside i = (some_read line board.next second i).inside
+      pub colon_inside : mark.symbol ≡ Some Colon → mark.next ≤ length line
+      colon_inside i = (next_symbol line board.next board_inside m Colon i).inside
 
-      pub line_kind : next.symbol ≡ Some Colon → line_of (symbols line) ≡ code_of p (from line next.next)
+      pub line_kind : mark.symbol ≡ Some Colon → line_of (symbols line) ≡ code_of p (from line mark.next)
       unfolding placed_of
-      line_kind i = placed ∙ ap (placed_of p) (begun line board.next second i)
+      line_kind i = placed ∙ ap (placed_of p) (next_symbol line board.next board_inside m Colon i).rest
 
-      pub line_relation : (next.symbol ≡ Some Colon → ⊥) → line_of (symbols line) ≡ relation_of p (scan 0 true (from line board.next))
+      pub line_relation : (mark.symbol ≡ Some Colon → ⊥) → line_of (symbols line) ≡ relation_of p (scan 0 true (from line board.next))
       unfolding placed_of scan
-      line_relation f = placed ∙ go second
+      line_relation f = placed ∙ go mark.symbol refl
         where
-          go : Stepped line board.next next → placed_of p (from line board.next) ≡ relation_of p (scan 0 true (from line board.next))
-          go (ends q i) = ap (placed_of p) i ∙ sym (ap (λ (ss : List Symbol). relation_of p (scan 0 true ss)) i)
-          go (steps s a q i l k) =
-              ap (placed_of p) i ∙ no_colon p s (from line next.next) (λ z. f (q ∙ ap Some z))
+          go : (o : Option Mark) → mark.symbol ≡ o → placed_of p (from line board.next) ≡ relation_of p (scan 0 true (from line board.next))
+          go None q =
+              let i : from line board.next ≡ [] = none_left line board.next board_inside m q in
+              ap (placed_of p) i ∙ sym (ap (λ (ss : List Symbol). relation_of p (scan 0 true ss)) i)
+          go (Some y) q =
+              let i = (next_symbol line board.next board_inside m y q).rest in
+              ap (placed_of p) i ∙ no_colon p y (from line mark.next) (λ z. f (q ∙ ap Some z))
               ∙ sym (ap (λ (ss : List Symbol). relation_of p (scan 0 true ss)) i)
 
 -- ---- a kind line

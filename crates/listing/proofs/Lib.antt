@@ -1,6 +1,5 @@
 -- The laws behind the functions of this crate.
 pub mod Pages
-pub mod Signs
 pub mod Rows
 pub mod Solving
 pub mod Lengths

@@ -4,8 +4,9 @@ use mathlib.Core.List.{List, ◌++◌}
 use Prim.Native.Nat.{ℕ, zero, suc, ◌+◌, ◌-◌, ◌≤◌}
 use native.Mathlib.Omega.{arith}
 use lib.ListN.{length, drop, replicate, length-replicate}
-use lib.Seq.{sets-eq}
-use Rattle.puts.specs.Texts.{HasRoom, Put}
+use lib.Seq.{sets, sets-eq}
+use Rattle.puts.specs.declared.Writer.{Writer}
+use Rattle.puts.specs.Texts.{HasRoom, placed, Put}
 use Rattle.listing.specs.declared.Page.{Page}
 use Rattle.listing.specs.Pages.{page_bytes, page}
 
@@ -17,20 +18,15 @@ drop_zeros zero m = let e : m ≡ m - 0 = omega arith in ap zeros e
 drop_zeros (suc n) zero = let e : 0 ≡ 0 - suc n = omega arith in ap zeros e
 drop_zeros (suc n) (suc m) = let e : m - n ≡ suc m - suc n = omega arith in drop_zeros n m ∙ ap zeros e
 
-module _ {t xs : List ℕ} (e : t ≡ replicate page_bytes 0) (h : length xs ≤ page_bytes) where
-  pub page_fits : HasRoom t 0 xs
-  page_fits = let d : length t ≡ page_bytes = ap length e ∙ length-replicate {A = ℕ} page_bytes 0 in record { room = omega arith }
+-- bytes that are put at the front of a blank page fit, and make it the page of these bytes
+module _ {w : Writer} {xs : List ℕ} (blank : w.text.now ≡ replicate page_bytes 0) (front : w.at ≡ 0) (h : length xs ≤ page_bytes) where
+  pub page_fits : HasRoom w xs
+  page_fits = record { room = omega (arith, ap length blank, length-replicate {A = ℕ} page_bytes 0) }
 
-  pub page_whole : {u : List ℕ} {n : ℕ} → Put t 0 xs u n → ◌≡◌ {A = Page} (record { text = u; used = n }) (page xs)
-  page_whole {u} {n} p = two u n words places
-    where
-      words : u ≡ xs ++ replicate (page_bytes - length xs) 0
-      words =
-          p.text ∙ sets-eq xs t 0 page_fits.room ∙ ap (λ (l : List ℕ). xs ++ drop (0 + length xs) l) e
-          ∙ ap (λ (l : List ℕ). xs ++ l) (let z : 0 + length xs ≡ length xs = omega arith in ap (λ (k : ℕ). drop k (replicate page_bytes 0)) z ∙ drop_zeros (length xs) page_bytes)
-
-      places : n ≡ length xs
-      places = let d : n ≡ 0 + length xs = p.next in omega arith
-
-      two : (u : List ℕ) (n : ℕ) → u ≡ xs ++ replicate (page_bytes - length xs) 0 → n ≡ length xs → ◌≡◌ {A = Page} (record { text = u; used = n }) (page xs)
-      two u n a b = ap (λ (l : List ℕ). record { text = l; used = n }) a ∙ ap (λ (k : ℕ). record { text = xs ++ replicate (page_bytes - length xs) 0; used = k }) b
+  pub page_whole : {v : Writer} {u : List ℕ} {n : ℕ} → Put w xs v → u ≡ v.text.now → n ≡ v.at → ◌≡◌ {A = Page} (record { text = u; used = n }) (page xs)
+  unfolding placed
+  page_whole {v} {u} {n} p d e =
+      let zero : 0 + length xs ≡ length xs = omega arith in
+      let whole : sets (zeros page_bytes) 0 xs ≡ xs ++ zeros (page_bytes - length xs) =
+      sets-eq xs (zeros page_bytes) 0 (omega (arith, length-replicate {A = ℕ} page_bytes 0)) ∙ rw (zero, drop_zeros (length xs) page_bytes) in
+      rw (d, e, p.text, p.next, blank, front, zero, whole)

@@ -4,6 +4,7 @@ use mathlib.Core.List.{List, ◌++◌, flat_map, append-nil, append_assoc}
 use Prim.Native.Nat.{ℕ, zero, suc, ◌+◌, ◌-◌, ◌≤◌, ◌<◌}
 use native.Mathlib.Omega.{arith}
 use Rattle.rules.specs.Tables.{range}
+use Rattle.puts.specs.declared.Writer.{Writer}
 use Rattle.puts.specs.Texts.{HasRoom, Put}
 use Rattle.puts.proofs.Putting.{put_none, put_then, fits_first, fits_rest}
 
@@ -31,13 +32,13 @@ module _ (f : ℕ → List ℕ) where
 
   module _ (i : ℕ) where
     -- before the first
-    pub lines_none : {q : ℕ} (t : List ℕ) (at : ℕ) → q ≤ i → Put t at (flat_map f (range i (q - i))) t at
+    pub lines_none : {q : ℕ} (w : Writer) → q ≤ i → Put w (flat_map f (range i (q - i))) w
     unfolding flat_map
-    lines_none {q} t at l = let e : 0 ≡ q - i = omega arith in subst (λ (k : ℕ). Put t at (flat_map f (range i k)) t at) e (put_none t at)
+    lines_none {q} w l = let e : 0 ≡ q - i = omega arith in subst (λ (k : ℕ). Put w (flat_map f (range i k)) w) e (put_none w)
 
-    module _ {t u : List ℕ} {at m q : ℕ} (l : i ≤ q) (p : Put t at (flat_map f (range i (q - i))) u m) where
+    module _ {w v : Writer} {q : ℕ} (l : i ≤ q) (p : Put w (flat_map f (range i (q - i))) v) where
       -- where all fit, the next one does
-      pub lines_fit : (n : ℕ) → q < i + n → HasRoom t at (flat_map f (range i n)) → HasRoom u m (f q)
+      pub lines_fit : (n : ℕ) → q < i + n → HasRoom w (flat_map f (range i n)) → HasRoom v (f q)
       lines_fit n g h =
           let e : n ≡ q - i + suc (n - suc (q - i)) = omega arith in
           let d : i + (q - i) ≡ q = omega arith in
@@ -46,17 +47,17 @@ module _ (f : ℕ → List ℕ) where
           ∙ ap (λ (k : ℕ). flat_map f (range i (q - i)) ++ flat_map f (range k (suc (n - suc (q - i))))) d
           ∙ ap (λ (ls : List ℕ). flat_map f (range i (q - i)) ++ ls) (over_first q (n - suc (q - i))) in
           fits_first (f q) (flat_map f (range (suc q) (n - suc (q - i))))
-          (fits_rest (flat_map f (range i (q - i))) (f q ++ flat_map f (range (suc q) (n - suc (q - i)))) (subst (HasRoom t at) all h) p)
+          (fits_rest (flat_map f (range i (q - i))) (f q ++ flat_map f (range (suc q) (n - suc (q - i)))) (subst (HasRoom w) all h) p)
 
-      pub lines_more : {w : List ℕ} {r : ℕ} → Put u m (f q) w r → Put t at (flat_map f (range i (q + 1 - i))) w r
-      lines_more {w} {r} s =
+      pub lines_more : {u : Writer} → Put v (f q) u → Put w (flat_map f (range i (q + 1 - i))) u
+      lines_more {u} s =
           let e : q - i + 1 ≡ q + 1 - i = omega arith in
           let d : i + (q - i) ≡ q = omega arith in
           let all : flat_map f (range i (q - i)) ++ f q ≡ flat_map f (range i (q + 1 - i)) =
           ap (λ (ls : List ℕ). flat_map f (range i (q - i)) ++ ls) (sym (over_one q) ∙ ap (λ (k : ℕ). flat_map f (range k 1)) (sym d)) ∙ sym (over_range (q - i) i 1)
           ∙ ap (λ (k : ℕ). flat_map f (range i k)) e in
-          subst (λ (ls : List ℕ). Put t at ls w r) all (put_then (flat_map f (range i (q - i))) (f q) p s)
+          subst (λ (ls : List ℕ). Put w ls u) all (put_then (flat_map f (range i (q - i))) (f q) p s)
 
       -- after the last
-      pub lines_all : (n : ℕ) → q ≤ i + n → i + n ≤ q → Put t at (flat_map f (range i n)) u m
-      lines_all n g h = let e : q - i ≡ n = omega arith in subst (λ (k : ℕ). Put t at (flat_map f (range i k)) u m) e p
+      pub lines_all : (n : ℕ) → q ≤ i + n → i + n ≤ q → Put w (flat_map f (range i n)) v
+      lines_all n g h = let e : q - i ≡ n = omega arith in subst (λ (k : ℕ). Put w (flat_map f (range i k)) v) e p

@@ -12,11 +12,10 @@ ghost use Rattle.puts.specs.Texts.{HasRoom, Put};
 ghost use Rattle.listing.specs.Listings.{budget, told, solved, listing, input_line};
 ghost use Rattle.listing.specs.Pages.{page_bytes, page};
 
-use crate::texts::{put_heading, put_pairs, put_refusal};
+use crate::texts::{put_heading, put_input, put_pairs, put_refusal};
 use answers::limits::MOST_WORDS;
 use answers::rooms::words_room;
-use answers::widths::word_number;
-use puts::put_text;
+use puts::Writer;
 use relations::full_room;
 
 // The bytes of a page, used or not.
@@ -29,6 +28,8 @@ pub const MOST_BYTES: usize = 2 * MOST_WORDS;
 const BUDGET: u32 = 10000;
 
 // A page holds the bytes that are printed, and zeros after them.
+// Stays: no heap, and a listing may not fail, so it is no `Vec`. A method for the bytes in use would need the bound of their number in each contract, or in
+// the type: that is no plainer than the two fields that callers read.
 #[derive(Drop)]
 pub struct Page {
     pub text: [u8; PAGE_BYTES],
@@ -43,45 +44,48 @@ fn blank() -> [u8; PAGE_BYTES]
 }
 
 // Searches the full table of v boards that it is lent, and puts what is printed for that search.
-fn put_solved(text: &mut [u8], words: &[u16], v: usize, table: &mut [u8]) -> usize
-    requires { (v ≤ most_boards) × (table.old ≡ filled v) × HasRoom text.old 0 (told v (searching plain_order words.now (filled v) budget)) }
-    ensures { Put text.old 0 (told v (searching plain_order words.now (filled v) budget)) text.new result }
+fn put_solved(out: &mut Writer, words: &[u16], v: usize, table: &mut [u8])
+    requires { (v ≤ most_boards) × (table.old ≡ filled v) × HasRoom out.old (told v (searching plain_order words.now (filled v) budget)) }
+    ensures { Put out.old (told v (searching plain_order words.now (filled v) budget)) out.new }
 {
     let found = solver::search(words, table, BUDGET);
     if found.number != 0 {
-        return put_refusal(text, found.number);
+        put_refusal(out, found.number);
+        return;
     }
-    let next = put_heading(text, v, found.count);
-    put_pairs(text, next, v, table)
+    put_heading(out, v, found.count);
+    put_pairs(out, v, table);
 }
 
 // Puts what is printed for the words of a description.
-fn put_words(text: &mut [u8], words: &[u16]) -> usize
-    requires { HasRoom text.old 0 (solved words.now) }
-    ensures { Put text.old 0 (solved words.now) text.new result }
+fn put_words(out: &mut Writer, words: &[u16])
+    requires { HasRoom out.old (solved words.now) }
+    ensures { Put out.old (solved words.now) out.new }
 {
     let read = solver::read(words);
     if read.number != 0 {
-        return put_refusal(text, read.number);
+        put_refusal(out, read.number);
+        return;
     }
-    let v = word_number(words[0]);
+    let v = usize::from(words[0]);
     let n = v * v;
     let mut table = full_room();
-    put_solved(text, words, v, &mut table[..n])
+    put_solved(out, words, v, &mut table[..n]);
 }
 
 // Puts what is printed for the bytes that were read.
-fn put_listing(text: &mut [u8], bytes: &[u8]) -> usize
-    requires { HasRoom text.old 0 (listing bytes.now) }
-    ensures { Put text.old 0 (listing bytes.now) text.new result }
+fn put_listing(out: &mut Writer, bytes: &[u8])
+    requires { HasRoom out.old (listing bytes.now) }
+    ensures { Put out.old (listing bytes.now) out.new }
 {
     if bytes.len() % 2 != 0 || MOST_BYTES < bytes.len() {
-        return put_text(text, 0, b"input\n");
+        put_input(out);
+        return;
     }
     let n = bytes.len() / 2;
     let mut words = words_room();
     words::take_words(bytes, &mut words[..n]);
-    put_words(text, &words[..n])
+    put_words(out, &words[..n]);
 }
 
 // The page for the bytes that were read.
@@ -89,7 +93,9 @@ pub fn listing(bytes: &[u8]) -> Page
     ensures { result ≡ page (listing bytes.now) }
 {
     let mut text = blank();
-    let used = put_listing(&mut text, bytes);
+    let mut out = Writer::new(&mut text);
+    put_listing(&mut out, bytes);
+    let used = out.at();
     Page { text, used }
 }
 
@@ -98,6 +104,8 @@ pub fn unread() -> Page
     ensures { result ≡ page input_line }
 {
     let mut text = blank();
-    let used = put_text(&mut text, 0, b"input\n");
+    let mut out = Writer::new(&mut text);
+    put_input(&mut out);
+    let used = out.at();
     Page { text, used }
 }

@@ -3,25 +3,21 @@ ghost use Rattle.std.specs.Prelude.{◌≡◌, ◌++◌, ◌*◌, ◌≤◌, ◌
 ghost use Rattle.rules.specs.Descriptions.{most_boards};
 ghost use Rattle.puts.specs.Decimals.{decimal};
 ghost use Rattle.puts.specs.Texts.{HasRoom, Put};
-ghost use Rattle.listing.specs.Listings.{line_feed, sign, sign_text, refusal_line, heading, pairs_of, pairs};
+ghost use Rattle.listing.specs.Listings.{input_line, line_feed, sign, sign_text, refusal_line, heading, pairs_of, pairs};
 
-use answers::widths::{byte_number, count_number};
-use puts::{put_byte, put_number, put_text};
+use puts::Writer;
 
 // The sign of a single relation.
+#[tactic(auto, unfolding(crate::specs::Listings::sign))]
 fn sign(set: u8) -> u8
     ensures { result ≡ sign set }
 {
-    if set == relations::E {
-        return b'=';
+    match set {
+        relations::E => b'=',
+        relations::A => b'<',
+        relations::B => b'>',
+        _ => b'|',
     }
-    if set == relations::A {
-        return b'<';
-    }
-    if set == relations::B {
-        return b'>';
-    }
-    b'|'
 }
 
 // The sign of a single relation between blanks.
@@ -32,66 +28,72 @@ fn sign_text(set: u8) -> [u8; 3]
 }
 
 // Puts a number that ends its line.
-fn put_last(text: &mut [u8], at: usize, n: usize) -> usize
-    requires { HasRoom text.old at (decimal n ++ line_feed) }
-    ensures { Put text.old at (decimal n ++ line_feed) text.new result }
+#[tactic(auto, using(puts::proofs::Putting::putting))]
+fn put_last(out: &mut Writer, n: usize)
+    requires { HasRoom out.old (decimal n ++ line_feed) }
+    ensures { Put out.old (decimal n ++ line_feed) out.new }
 {
-    let next = put_number(text, at, n);
-    put_byte(text, next, b'\n')
+    out.put_number(n);
+    out.put_byte(b'\n');
+}
+
+// Puts the line for an input that is no description.
+pub(crate) fn put_input(out: &mut Writer)
+    requires { HasRoom out.old input_line }
+    ensures { Put out.old input_line out.new }
+{
+    out.put_text(b"input\n");
 }
 
 // Puts the line of a refusal.
-pub(crate) fn put_refusal(text: &mut [u8], number: u8) -> usize
-    requires { HasRoom text.old 0 (refusal_line number) }
-    ensures { Put text.old 0 (refusal_line number) text.new result }
+#[tactic(auto, using(puts::proofs::Putting::putting), unfolding(crate::specs::Listings::refusal_line))]
+pub(crate) fn put_refusal(out: &mut Writer, number: u8)
+    requires { HasRoom out.old (refusal_line number) }
+    ensures { Put out.old (refusal_line number) out.new }
 {
-    let next = put_text(text, 0, b"refused ");
-    put_last(text, next, byte_number(number))
+    out.put_text(b"refused ");
+    put_last(out, usize::from(number));
 }
 
 // Puts the first line of a listing, with the number of boards and the tries.
-pub(crate) fn put_heading(text: &mut [u8], v: usize, tries: u32) -> usize
-    requires { HasRoom text.old 0 (heading v tries) }
-    ensures { Put text.old 0 (heading v tries) text.new result }
+#[tactic(auto, using(puts::proofs::Putting::putting), unfolding(crate::specs::Listings::heading))]
+pub(crate) fn put_heading(out: &mut Writer, v: usize, tries: u32)
+    requires { HasRoom out.old (heading v tries) }
+    ensures { Put out.old (heading v tries) out.new }
 {
-    let count = count_number(tries);
-    let boards = put_text(text, 0, b"boards ");
-    let after = put_number(text, boards, v);
-    let next = put_text(text, after, b" tries ");
-    put_last(text, next, count)
+    out.put_text(b"boards ");
+    out.put_number(v);
+    out.put_text(b" tries ");
+    put_last(out, tries as usize);
 }
 
 // Puts the line of a pair of boards: p, the sign and q.
-fn put_pair(text: &mut [u8], at: usize, p: usize, set: u8, q: usize) -> usize
-    requires { HasRoom text.old at (decimal p ++ (sign_text set ++ (decimal q ++ line_feed))) }
-    ensures { Put text.old at (decimal p ++ (sign_text set ++ (decimal q ++ line_feed))) text.new result }
+#[tactic(auto, using(puts::proofs::Putting::putting))]
+fn put_pair(out: &mut Writer, p: usize, set: u8, q: usize)
+    requires { HasRoom out.old (decimal p ++ (sign_text set ++ (decimal q ++ line_feed))) }
+    ensures { Put out.old (decimal p ++ (sign_text set ++ (decimal q ++ line_feed))) out.new }
 {
-    let after = put_number(text, at, p);
-    let shown = sign_text(set);
-    let next = put_text(text, after, &shown);
-    put_last(text, next, q)
+    out.put_number(p);
+    out.put_text(&sign_text(set));
+    put_last(out, q);
 }
 
 // Puts the lines of a board's pairs with those after it.
-fn put_pairs_of(text: &mut [u8], at: usize, v: usize, table: &[u8], p: usize) -> usize
-    requires { (v ≤ most_boards) × (p < v) × (length table.now ≡ v * v) × HasRoom text.old at (pairs_of v table.now p) }
-    ensures { Put text.old at (pairs_of v table.now p) text.new result }
+fn put_pairs_of(out: &mut Writer, v: usize, table: &[u8], p: usize)
+    requires { (v ≤ most_boards) × (p < v) × (length table.now ≡ v * v) × HasRoom out.old (pairs_of v table.now p) }
+    ensures { Put out.old (pairs_of v table.now p) out.new }
 {
-    let mut next = at;
     for q in p + 1..v {
-        next = put_pair(text, next, p, table[v * p + q], q);
+        put_pair(out, p, table[v * p + q], q);
     }
-    next
 }
 
 // Puts the lines of all pairs of boards.
-pub(crate) fn put_pairs(text: &mut [u8], at: usize, v: usize, table: &[u8]) -> usize
-    requires { (v ≤ most_boards) × (length table.now ≡ v * v) × HasRoom text.old at (pairs v table.now) }
-    ensures { Put text.old at (pairs v table.now) text.new result }
+pub(crate) fn put_pairs(out: &mut Writer, v: usize, table: &[u8])
+    requires { (v ≤ most_boards) × (length table.now ≡ v * v) × HasRoom out.old (pairs v table.now) }
+    ensures { Put out.old (pairs v table.now) out.new }
 {
-    let mut next = at;
     for p in 0..v {
-        next = put_pairs_of(text, next, v, table, p);
+        put_pairs_of(out, v, table, p);
     }
-    next
 }

@@ -47,6 +47,28 @@ decimal_more n h =
     let r = tenth_less n h in
     digits_more n n h ∙ ap (λ (ds : List ℕ). ds ++ (last_digit n ∷ [])) (digits_enough n (suc (n / 10)) (n / 10) (omega arith) (omega arith))
 
+-- the digits before the last one
+unfoldable pub tens : ℕ → List ℕ
+tens n = elim (ltb n 10) [ true ↦ [] | false ↦ decimal (n / 10) ]
+
+abbrev by_one : ℕ → Bool → List ℕ
+by_one n b = elim b [ true ↦ [] | false ↦ decimal (n / 10) ]
+
+pub tens_one : (n : ℕ) → n < 10 → tens n ≡ []
+unfolding tens
+tens_one n h = ap (by_one n) (lt-ltb n 10 h)
+
+pub tens_more : (n : ℕ) → 10 ≤ n → tens n ≡ decimal (n / 10)
+unfolding tens
+tens_more n h = ap (by_one n) (le-ltb n 10 h)
+
+pub decimal_last : (n : ℕ) → decimal n ≡ tens n ++ (last_digit n ∷ [])
+decimal_last n = go (ltb n 10) refl
+  where
+    go : (b : Bool) → ltb n 10 ≡ b → decimal n ≡ tens n ++ (last_digit n ∷ [])
+    go true e = let h = ltb-true n 10 e in rw (tens_one n h) (decimal_one n h)
+    go false e = let h = ltb-false n 10 e in rw (tens_more n h) (decimal_more n h)
+
 -- ---- how many digits there are
 
 -- each number below m has at most k digits

@@ -1,12 +1,14 @@
 -- What is put into a text piece by piece is put as a whole. Assumes nothing.
-use mathlib.Core.Path.{◌≡◌, refl, sym, ap, ◌∙◌}
-use mathlib.Core.List.{List, [], ◌∷◌, ◌++◌}
-use Prim.Native.Nat.{ℕ, suc, ◌+◌, ◌<◌}
+use mathlib.Core.Path.{◌≡◌, refl, sym, ap, ◌∙◌, subst}
+use mathlib.Core.List.{List, [], ◌∷◌, ◌++◌, append_assoc}
+use Prim.Native.Nat.{ℕ, suc, ◌+◌, ◌≤◌, ◌<◌}
 use native.Mathlib.Numerals.{add-one}
 use native.Mathlib.Omega.{arith}
-use lib.ListN.{length, get_or, take, set, length-append}
-use lib.Seq.{sets, length-sets, length-take-le, take-suc}
-use Rattle.puts.specs.Texts.{HasRoom, Put}
+use lib.ListN.{length, get_or, take, drop, set, length-append}
+use lib.Seq.{sets, sets-eq, length-sets, length-take-le, take-suc, drop-drop}
+use borrow.Rule.Slice.PartMut.{put_mid}
+use Rattle.puts.specs.declared.Writer.{Writer}
+use Rattle.puts.specs.Texts.{HasRoom, placed, Put}
 
 sets_append : (xs ys t : List ℕ) (at : ℕ) → sets (sets t at xs) (at + length xs) ys ≡ sets t at (xs ++ ys)
 sets_append [] ys t at = let e : at + 0 ≡ at = omega arith in ap (λ (n : ℕ). sets t n ys) e
@@ -14,28 +16,21 @@ sets_append (x ∷ xs) ys t at =
     let e : at + suc (length xs) ≡ suc at + length xs = omega arith in
     ap (λ (n : ℕ). sets (sets (set t at x) (suc at) xs) n ys) e ∙ sets_append xs ys (set t at x) (suc at)
 
-pub put_none : (t : List ℕ) (at : ℕ) → Put t at [] t at
-put_none t at = record { text = refl; next = omega arith }
+pub placed_append : (t : List ℕ) (at : ℕ) (xs ys : List ℕ) → placed (placed t at xs) (at + length xs) ys ≡ placed t at (xs ++ ys)
+unfolding placed
+placed_append t at xs ys = sets_append xs ys t at
+
+pub placed_none : (t : List ℕ) (at : ℕ) → placed t at [] ≡ t
+unfolding placed
+placed_none t at = refl
 
 -- a text keeps its length
-pub put_length : {t : List ℕ} {at : ℕ} {xs u : List ℕ} {n : ℕ} → Put t at xs u n → length u ≡ length t
-put_length {t} {at} {xs} p = ap length p.text ∙ length-sets t at xs
+pub length_placed : (t : List ℕ) (at : ℕ) (xs : List ℕ) → length (placed t at xs) ≡ length t
+unfolding placed
+length_placed t at xs = length-sets t at xs
 
-module _ {t : List ℕ} {at : ℕ} (xs ys : List ℕ) where
-  pub put_then : {u w : List ℕ} {m n : ℕ} → Put t at xs u m → Put u m ys w n → Put t at (xs ++ ys) w n
-  put_then {u} {w} {m} {n} p q =
-      record {
-        text =
-            q.text ∙ ap (λ (l : List ℕ). sets l m ys) p.text ∙ ap (λ (k : ℕ). sets (sets t at xs) k ys) p.next ∙ sets_append xs ys t at;
-        next = let e : m ≡ at + length xs = p.next in let d : n ≡ m + length ys = q.next in omega (arith, length-append xs ys);
-      }
-
-  -- where all fits, its first part does, and then the rest
-  pub fits_first : HasRoom t at (xs ++ ys) → HasRoom t at xs
-  fits_first h = record { room = omega (arith, length-append xs ys) }
-
-  pub fits_rest : {u : List ℕ} {m : ℕ} → HasRoom t at (xs ++ ys) → Put t at xs u m → HasRoom u m ys
-  fits_rest {u} {m} h p = let e : m ≡ at + length xs = p.next in record { room = omega (arith, length-append xs ys, put_length p) }
+pub length_joined : (xs ys : List ℕ) → length (xs ++ ys) ≡ length xs + length ys
+length_joined xs ys = length-append xs ys
 
 -- another byte of some that are put one after the other
 pub bytes_more : (t : List ℕ) (at : ℕ) (bs : List ℕ) (i : ℕ) → i < length bs → set (sets t at (take i bs)) (at + i) (get_or bs i 0) ≡ sets t at (take (i + 1) bs)
@@ -43,3 +38,41 @@ bytes_more t at bs i h =
     let l : length (take i bs) ≡ i = length-take-le i bs (omega arith) in
     ap (λ (k : ℕ). set (sets t at (take i bs)) (at + k) (get_or bs i 0)) (sym l) ∙ sets_append (take i bs) (get_or bs i 0 ∷ []) t at
     ∙ ap (sets t at) (sym (take-suc bs i 0 h)) ∙ ap (λ (k : ℕ). sets t at (take k bs)) (sym (add-one i))
+
+-- some bytes in the place of as many others are put there
+pub put_part : (t : List ℕ) (at n : ℕ) (bs us : List ℕ) → at + length bs ≤ length t → n ≡ length bs → us ≡ bs → put_mid at n t us ≡ placed t at bs
+unfolding placed
+put_part t at n bs us room e d =
+    let f : put_mid at n t us ≡ put_mid at (length bs) t bs = ap (λ (k : ℕ). put_mid at k t us) e ∙ ap (put_mid at (length bs) t) d in
+    f ∙ rw (drop-drop (length bs) at t) (sym (append_assoc (take at t) bs (drop (at + length bs) t)) ∙ sym (sets-eq bs t at room))
+
+pub put_none : (w : Writer) → Put w [] w
+put_none w = record { text = sym (placed_none w.text.now w.at); next = omega arith; same = refl }
+
+-- what is known of the room for some bytes, and of bytes that are put, is known of the same bytes in another form
+module _ {w : Writer} {xs ys : List ℕ} (e : xs ≡ ys) where
+  pub fits_as : HasRoom w xs → HasRoom w ys
+  fits_as h = subst (HasRoom w) e h
+
+  pub put_as : {v : Writer} → Put w xs v → Put w ys v
+  put_as {v} p = subst (λ (zs : List ℕ). Put w zs v) e p
+
+module _ {w : Writer} (xs ys : List ℕ) where
+  pub put_then : {v u : Writer} → Put w xs v → Put v ys u → Put w (xs ++ ys) u
+  put_then {v} {u} p q =
+      record {
+        text =
+            q.text ∙ rw (p.text, p.next, placed_append);
+        next = omega (arith, p.next, q.next, length-append xs ys);
+        same = q.same ∙ p.same;
+      }
+
+  -- where all fits, its first part does, and then the rest
+  pub fits_first : HasRoom w (xs ++ ys) → HasRoom w xs
+  fits_first h = record { room = omega (arith, h.room, length-append xs ys) }
+
+  pub fits_rest : {v : Writer} → HasRoom w (xs ++ ys) → Put w xs v → HasRoom v ys
+  fits_rest {v} h p = record { room = omega (arith, h.room, p.next, length-append xs ys, ap length p.text, length_placed w.text.now w.at xs) }
+
+-- what shows, of pieces that are put one after the other, that they fit and are put as a whole
+pub ruleset putting = (arith, placed_append, length_placed, length_joined)

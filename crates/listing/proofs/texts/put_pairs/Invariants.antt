@@ -1,12 +1,9 @@
 use mathlib.Core.List.{flat_map}
-use Prim.Native.Nat.{◌-◌, ◌≤◌}
+use Prim.Native.Nat.{◌-◌}
 use Rattle.rules.specs.Tables.{range}
 use Rattle.puts.specs.Texts.{Put}
 use Rattle.listing.specs.Listings.{pairs_of}
 use Rattle.listing.proofs.texts.put_pairs.Given as goal
 
 abbrev pub invariant-loop-p : goal.invariant-loop-p
-invariant-loop-p l = (l.p ≤ l.v) × Put l.initial.text l.at (flat_map (pairs_of l.v l.table) (range 0 (l.p - 0))) l.text l.next
-
-abbrev pub decreases-loop-p : goal.decreases-loop-p
-decreases-loop-p l = l.v - l.p
+invariant-loop-p l = Put l.initial.out (flat_map (pairs_of l.v l.table) (range 0 (l.p - 0))) l.out

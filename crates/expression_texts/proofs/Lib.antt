@@ -1,5 +1,4 @@
 -- The laws behind the functions of this crate.
-pub mod Pieces
 pub mod Shapes
 pub mod Begun
 pub mod Determined

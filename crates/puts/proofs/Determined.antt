@@ -4,8 +4,8 @@ use mathlib.Core.Path.{◌≡◌, refl, sym, ap₂, ◌∙◌}
 use mathlib.Core.List.{List}
 use Prim.Native.Nat.{ℕ}
 use Rattle.contracts.specs.Promises.{OfTwo, OneResult, OneOutcome}
-use Rattle.puts.specs.declared.Writer.{Writer}
-use Rattle.puts.specs.Texts.{Put}
+use Rattle.puts.specs.Texts.{told}
+use Rattle.puts.proofs.Putting.{told_once}
 use Rattle.puts.proofs.Writer.new.Kinds as new_kinds
 use Rattle.puts.proofs.Writer.new.Reads as new
 use Rattle.puts.proofs.Writer.at.Kinds as at_kinds
@@ -17,18 +17,8 @@ use Rattle.puts.proofs.Writer.put_text.Reads as put-text
 use Rattle.puts.proofs.Writer.put_number.Kinds as put_number_kinds
 use Rattle.puts.proofs.Writer.put_number.Reads as put-number
 
--- what a writer has put: its text and its place
-abbrev told : Writer → List ℕ × ℕ
-told w = (w.text.now, w.at)
-
-abbrev pair : List ℕ → ℕ → List ℕ × ℕ
-pair t n = (t, n)
-
-told_once : {w u v : Writer} {xs : List ℕ} → Put w xs u → Put w xs v → told u ≡ told v
-told_once p q = ap₂ pair (p.text ∙ sym q.text) (p.next ∙ sym q.next)
-
 pub new_determined : OfTwo 1 new_kinds.ps new_kinds.r new.Asked new.Learnt (λ κs x y d e. told x ≡ told y)
-new_determined κs a asked x y d e p q = ap₂ pair (p.1.0 ∙ sym q.1.0) (p.1.1 ∙ sym q.1.1)
+new_determined κs a asked x y d e p q = ap₂ (λ (t : List ℕ) (n : ℕ). (t, n)) (p.1.0 ∙ sym q.1.0) (p.1.1 ∙ sym q.1.1)
 
 pub at_determined : OneResult 2 at_kinds.ps at_kinds.r at.Asked at.Learnt
 at_determined κs a asked x y d e p q = p ∙ sym q

@@ -1,5 +1,5 @@
 -- What is put into a text piece by piece is put as a whole. Assumes nothing.
-use mathlib.Core.Path.{◌≡◌, refl, sym, ap, ◌∙◌, subst}
+use mathlib.Core.Path.{◌≡◌, refl, sym, ap, ap₂, ◌∙◌, subst}
 use mathlib.Core.List.{List, [], ◌∷◌, ◌++◌, append_assoc}
 use Prim.Native.Nat.{ℕ, suc, ◌+◌, ◌≤◌, ◌<◌}
 use native.Mathlib.Numerals.{add-one}
@@ -8,7 +8,7 @@ use lib.ListN.{length, get_or, take, drop, set, length-append}
 use lib.Seq.{sets, sets-eq, length-sets, length-take-le, take-suc, drop-drop}
 use borrow.Rule.Slice.PartMut.{put_mid}
 use Rattle.puts.specs.declared.Writer.{Writer}
-use Rattle.puts.specs.Texts.{HasRoom, placed, Put}
+use Rattle.puts.specs.Texts.{HasRoom, placed, Put, told}
 
 sets_append : (xs ys t : List ℕ) (at : ℕ) → sets (sets t at xs) (at + length xs) ys ≡ sets t at (xs ++ ys)
 sets_append [] ys t at = let e : at + 0 ≡ at = omega arith in ap (λ (n : ℕ). sets t n ys) e
@@ -74,5 +74,9 @@ module _ {w : Writer} (xs ys : List ℕ) where
   pub fits_rest : {v : Writer} → HasRoom w (xs ++ ys) → Put w xs v → HasRoom v ys
   fits_rest {v} h p = record { room = omega (arith, h.room, p.next, length-append xs ys, ap length p.text, length_placed w.text.now w.at xs) }
 
+-- two writers by which the same bytes are put tell the same
+pub told_once : {w u v : Writer} {xs : List ℕ} → Put w xs u → Put w xs v → told u ≡ told v
+told_once p q = ap₂ (λ (t : List ℕ) (n : ℕ). (t, n)) (p.text ∙ sym q.text) (p.next ∙ sym q.next)
+
 -- what shows, of pieces that are put one after the other, that they fit and are put as a whole
-pub ruleset putting = (arith, placed_append, length_placed, length_joined)
+pub ruleset putting = (arith, placed_append, placed_none, length_placed, length_joined)

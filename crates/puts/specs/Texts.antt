@@ -16,3 +16,7 @@ pub record Put (w : Writer) (xs : List ℕ) (v : Writer) : Type 0 where
   pub text : v.text.now ≡ placed w.text.now w.at xs
   pub next : v.at ≡ w.at + length xs
   pub same : v.text.ghost_name ≡ w.text.ghost_name
+
+-- what a writer tells: its text and its place
+abbrev pub told : Writer → List ℕ × ℕ
+told w = (w.text.now, w.at)

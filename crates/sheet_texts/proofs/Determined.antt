@@ -10,4 +10,4 @@ pub text_room_determined : OneResult 0 text_room_kinds.ps text_room_kinds.r text
 text_room_determined κs a asked x y d e p q = p ∙ sym q
 
 pub put_sheet_determined : OneOutcome 2 put_sheet_kinds.ps put_sheet_kinds.r put-sheet.Asked put-sheet.Learnt (λ κs e. e.1.0.now)
-put_sheet_determined κs a asked x y d e p q = (p.put.next ∙ sym q.put.next, p.put.text ∙ sym q.put.text)
+put_sheet_determined κs a asked x y d e p q = (p.length_told ∙ sym q.length_told, p.text ∙ sym q.text)

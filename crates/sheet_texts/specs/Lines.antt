@@ -4,10 +4,10 @@ use mathlib.Core.List.{List, [], ◌∷◌, ◌++◌, map, flat_map}
 use Rattle.rules.specs.Expressions.{Phrase, written}
 use Rattle.rules.specs.Descriptions.{most_boards, most_expression_words, most_ways}
 use Rattle.puts.specs.Decimals.{decimal}
-use Rattle.puts.specs.Texts.{Put}
 use Rattle.typed.specs.Symbols.{Symbol, number, most_number}
-use Rattle.typed.specs.Writing.{lines_typing, spaced, line_text}
-use Rattle.expression_texts.specs.declared.Written.{Written}
+use Rattle.typed.specs.Writing.{relation_typing, kind_typing, lines_typing, spaced, line_text}
+use Rattle.sheet_texts.specs.declared.Sort.{Sort}
+use Rattle.sheet_texts.specs.declared.Sort.TheVariants.{Relation, Kind}
 
 -- ---- the words of lines
 
@@ -25,6 +25,15 @@ pub record IsKind (p c : ℕ) (ys : List ℕ) : Type 0 where
   pub code : c ≤ most_number
   pub few : length ys ≤ most_ways
   pub boards : (i : ℕ) → i < length ys → slice_index ys i < most_boards
+
+-- a line of a sort, and how it is typed
+abbrev pub IsLine : Sort → ℕ → ℕ → List ℕ → Type 0
+IsLine Relation = IsRelation
+IsLine Kind = IsKind
+
+abbrev pub line_typing : Sort → ℕ → ℕ → List ℕ → List Symbol
+line_typing Relation = relation_typing
+line_typing Kind = kind_typing
 
 -- the words of a line after its length, and how many words it has
 abbrev pub listed : List ℕ → List ℕ
@@ -67,9 +76,3 @@ front_text line ws = line_text (line (slice_index ws 0) (slice_index ws 1) (list
 
 abbrev pub lines_text : (ℕ → ℕ → List ℕ → List Symbol) → ℕ → List ℕ → List ℕ
 lines_text line n ws = flat_map line_text (lines_typing line n ws)
-
--- The line that the words ws begin with is put into the text t, from the place `next` on, and this makes u. The answer is the number of its words
--- and the place after its bytes.
-pub record PutsLine (line : ℕ → ℕ → List ℕ → List Symbol) (ws t : List ℕ) (next : ℕ) (u : List ℕ) (r : Written) : Type 0 where
-  pub word : r.word ≡ line_words ws
-  pub text : Put t next (front_text line ws) u r.next

@@ -1,7 +1,7 @@
 -- Good descriptions, how long their texts are at most, and a text that is put. Assumes nothing.
 use Rattle.std.specs.Prelude.{◌≡◌, List, ℕ, ◌+◌, ◌*◌, ◌≤◌, length}
 use Rattle.rules.specs.Descriptions.{most_lines, most_kinds, most_expression_words, most_ways, Sheet, good, read}
-use Rattle.puts.specs.Texts.{Put}
+use Rattle.puts.specs.Texts.{placed}
 use Rattle.typed.specs.Writing.{text_of}
 
 -- the words are those of a good description
@@ -26,5 +26,6 @@ most_text = most_first + most_lines * most_relation + most_kinds * most_kind
 
 -- The text of the description ws is put at the front of t, and this makes u; n is its length, and it is no longer than the longest.
 pub record PutsSheet (ws t u : List ℕ) (n : ℕ) : Type 0 where
-  pub put : Put t 0 (text_of ws) u n
+  pub text : u ≡ placed t 0 (text_of ws)
+  pub length_told : n ≡ length (text_of ws)
   pub few : length (text_of ws) ≤ most_text

@@ -6,14 +6,13 @@ ghost use Rattle.puts.specs.Texts.{HasRoom, Put};
 ghost use Rattle.typed.specs.Symbols.{boards, number};
 ghost use Rattle.typed.specs.Writing.{relation_typing, kind_typing, spaced, line_text};
 ghost use Rattle.sheet_texts.specs.Sheets.{Good, most_text, PutsSheet};
-ghost use Rattle.sheet_texts.specs.Lines.{IsRelation, IsKind, HasLine, HasLines, last_text, panel_text, ways_text, front_text, lines_text, PutsLine};
+ghost use Rattle.sheet_texts.specs.Lines.{IsRelation, IsKind, IsLine, line_typing, HasLine, HasLines, line_words, last_text, panel_text, ways_text, front_text, lines_text};
 
 use answers::limits::{
     HEADER_WORDS, LINE_WORDS, MOST_EXPRESSION_WORDS, MOST_KINDS, MOST_LINES, MOST_WAYS,
 };
-use answers::widths::word_number;
-use expression_texts::{Written, put_expression};
-use puts::{put_byte, put_number, put_text};
+use expression_texts::put_expression;
+use puts::Writer;
 
 // The bytes of the longest first line, relation line and kind line.
 const MOST_FIRST: usize = 6 + 3 + 1;
@@ -32,120 +31,112 @@ pub fn text_room() -> [u8; MOST_TEXT]
     [0; MOST_TEXT]
 }
 
+// The sorts of lines after the first line.
+#[derive(Clone, Copy)]
+enum Sort {
+    Relation,
+    Kind,
+}
+
 // Puts a number after a blank.
-fn put_spaced(text: &mut [u8], at: usize, n: usize) -> usize
-    requires { HasRoom text.old at (spaced (number n)) }
-    ensures { Put text.old at (spaced (number n)) text.new result }
+#[tactic(auto, using(puts::proofs::Putting::putting), unfolding(typed::specs::Writing::spaced, typed::specs::Symbols::spelling))]
+fn put_spaced(out: &mut Writer, n: usize)
+    requires { HasRoom out.old (spaced (number n)) }
+    ensures { Put out.old (spaced (number n)) out.new }
 {
-    let next = put_byte(text, at, b' ');
-    put_number(text, next, n)
+    out.put_byte(b' ');
+    out.put_number(n);
 }
 
 // Puts a number after a blank, and ends the line.
-fn put_last(text: &mut [u8], at: usize, n: usize) -> usize
-    requires { HasRoom text.old at (last_text n) }
-    ensures { Put text.old at (last_text n) text.new result }
+#[tactic(auto, using(puts::proofs::Putting::putting))]
+fn put_last(out: &mut Writer, n: usize)
+    requires { HasRoom out.old (last_text n) }
+    ensures { Put out.old (last_text n) out.new }
 {
-    let next = put_spaced(text, at, n);
-    put_byte(text, next, b'\n')
+    put_spaced(out, n);
+    out.put_byte(b'\n');
 }
 
 // Puts the first line, with the number of boards.
-fn put_first(text: &mut [u8], v: usize) -> usize
-    requires { HasRoom text.old 0 (line_text (boards ∷ number v ∷ [])) }
-    ensures { Put text.old 0 (line_text (boards ∷ number v ∷ [])) text.new result }
+#[tactic(auto, using(puts::proofs::Putting::putting, crate::proofs::Bytes::first_text_lem))]
+fn put_first(out: &mut Writer, v: usize)
+    requires { HasRoom out.old (line_text (boards ∷ number v ∷ [])) }
+    ensures { Put out.old (line_text (boards ∷ number v ∷ [])) out.new }
 {
-    let next = put_text(text, 0, b"boards");
-    put_last(text, next, v)
+    out.put_text(b"boards");
+    put_last(out, v);
 }
 
-// Puts the relation line that the words begin with: p, the expression and q.
-fn put_relation(words: &[u16], text: &mut [u8], next: usize) -> Written
-    requires { HasLine IsRelation words.now × HasRoom text.old next (front_text relation_typing words.now) }
-    ensures { PutsLine relation_typing words.now text.old next text.new result }
+// Puts the relation line that the words begin with: p, the expression and q. Answers how many words it has.
+fn put_relation(words: &[u16], out: &mut Writer) -> usize
+    requires { HasLine IsRelation words.now × HasRoom out.old (front_text relation_typing words.now) }
+    ensures after { result ≡ line_words words.now }
+    ensures put { Put out.old (front_text relation_typing words.now) out.new }
 {
-    let p = word_number(words[0]);
-    let q = word_number(words[1]);
-    let begun = put_number(text, next, p);
-    let related = put_expression(words, LINE_WORDS, 0, text, begun);
-    let ended = put_last(text, related.next, q);
-    Written {
-        word: related.word,
-        next: ended,
-    }
+    out.put_number(usize::from(words[0]));
+    let after = put_expression(words, LINE_WORDS, 0, out);
+    put_last(out, usize::from(words[1]));
+    after
 }
 
 // Puts a kind line up to its ways: the panel and the code.
-fn put_panel(text: &mut [u8], at: usize, p: usize, code: usize) -> usize
-    requires { HasRoom text.old at (panel_text p code) }
-    ensures { Put text.old at (panel_text p code) text.new result }
+#[tactic(auto, using(puts::proofs::Putting::putting))]
+fn put_panel(out: &mut Writer, p: usize, code: usize)
+    requires { HasRoom out.old (panel_text p code) }
+    ensures { Put out.old (panel_text p code) out.new }
 {
-    let begun = put_number(text, at, p);
-    let named = put_text(text, begun, b" :");
-    let coded = put_spaced(text, named, code);
-    put_text(text, coded, b" (")
+    out.put_number(p);
+    out.put_text(b" :");
+    put_spaced(out, code);
+    out.put_text(b" (");
 }
 
 // Puts the ways of a kind line.
-fn put_ways(ways: &[u16], text: &mut [u8], at: usize) -> usize
-    requires { HasRoom text.old at (ways_text ways.now) }
-    ensures { Put text.old at (ways_text ways.now) text.new result }
+fn put_ways(ways: &[u16], out: &mut Writer)
+    requires { HasRoom out.old (ways_text ways.now) }
+    ensures { Put out.old (ways_text ways.now) out.new }
 {
-    let mut next = at;
-    for i in 0..ways.len() {
-        next = put_spaced(text, next, word_number(ways[i]));
-    }
-    next
-}
-
-// Puts the kind line that the words begin with: the panel, the code and the ways.
-fn put_kind(words: &[u16], text: &mut [u8], next: usize) -> Written
-    requires { HasLine IsKind words.now × HasRoom text.old next (front_text kind_typing words.now) }
-    ensures { PutsLine kind_typing words.now text.old next text.new result }
-{
-    let p = word_number(words[0]);
-    let code = word_number(words[1]);
-    let end = LINE_WORDS + word_number(words[2]);
-    let begun = put_panel(text, next, p, code);
-    let listed = put_ways(&words[LINE_WORDS..end], text, begun);
-    Written {
-        word: end,
-        next: put_text(text, listed, b" )\n"),
+    for way in ways {
+        put_spaced(out, usize::from(*way));
     }
 }
 
-// Puts the relation lines that the words begin with.
-fn put_relations(words: &[u16], count: usize, text: &mut [u8], from: usize) -> usize
-    requires { HasLines IsRelation count words.now × HasRoom text.old from (lines_text relation_typing count words.now) }
-    ensures { Put text.old from (lines_text relation_typing count words.now) text.new result }
+// Puts the kind line that the words begin with: the panel, the code and the ways. Answers how many words it has.
+fn put_kind(words: &[u16], out: &mut Writer) -> usize
+    requires { HasLine IsKind words.now × HasRoom out.old (front_text kind_typing words.now) }
+    ensures after { result ≡ line_words words.now }
+    ensures put { Put out.old (front_text kind_typing words.now) out.new }
 {
-    let mut at = 0;
-    let mut next = from;
-    let mut left = count;
-    while 0 < left {
-        let line = put_relation(&words[at..], text, next);
-        at += line.word;
-        next = line.next;
-        left -= 1;
-    }
-    next
+    let end = LINE_WORDS + usize::from(words[2]);
+    put_panel(out, usize::from(words[0]), usize::from(words[1]));
+    put_ways(&words[LINE_WORDS..end], out);
+    out.put_text(b" )\n");
+    end
 }
 
-// Puts the kind lines that the words begin with.
-fn put_kinds(words: &[u16], count: usize, text: &mut [u8], from: usize) -> usize
-    requires { HasLines IsKind count words.now × HasRoom text.old from (lines_text kind_typing count words.now) }
-    ensures { Put text.old from (lines_text kind_typing count words.now) text.new result }
+// Puts the line of a sort that the words begin with. Answers how many words it has.
+fn put_line(sort: Sort, words: &[u16], out: &mut Writer) -> usize
+    requires { HasLine (IsLine sort) words.now × HasRoom out.old (front_text (line_typing sort) words.now) }
+    ensures after { result ≡ line_words words.now }
+    ensures put { Put out.old (front_text (line_typing sort) words.now) out.new }
 {
-    let mut at = 0;
-    let mut next = from;
-    let mut left = count;
-    while 0 < left {
-        let line = put_kind(&words[at..], text, next);
-        at += line.word;
-        next = line.next;
-        left -= 1;
+    match sort {
+        Sort::Relation => put_relation(words, out),
+        Sort::Kind => put_kind(words, out),
     }
-    next
+}
+
+// Puts the lines of a sort, so many, that the words begin with.
+fn put_lines(sort: Sort, count: usize, words: &[u16], out: &mut Writer)
+    requires { HasLines (IsLine sort) count words.now × HasRoom out.old (lines_text (line_typing sort) count words.now) }
+    ensures { Put out.old (lines_text (line_typing sort) count words.now) out.new }
+{
+    let mut rest = words;
+    for _ in 0..count {
+        let after = put_line(sort, rest, out);
+        rest = &rest[after..];
+    }
 }
 
 // Puts the text of a good description at the front of a text that has room for the longest, and answers its length.
@@ -153,11 +144,20 @@ pub fn put_sheet(words: &[u16], text: &mut [u8]) -> usize
     requires { Good words.now × (most_text ≤ length text.old) }
     ensures { PutsSheet words.now text.old text.new result }
 {
-    let v = word_number(words[0]);
-    let relations = word_number(words[1]);
-    let kinds = word_number(words[2]);
-    let first_kind = word_number(words[4]);
-    let begun = put_first(text, v);
-    let related = put_relations(&words[HEADER_WORDS..], relations, text, begun);
-    put_kinds(&words[first_kind..], kinds, text, related)
+    let mut out = Writer::new(text);
+    let first_kind = usize::from(words[4]);
+    put_first(&mut out, usize::from(words[0]));
+    put_lines(
+        Sort::Relation,
+        usize::from(words[1]),
+        &words[HEADER_WORDS..],
+        &mut out,
+    );
+    put_lines(
+        Sort::Kind,
+        usize::from(words[2]),
+        &words[first_kind..],
+        &mut out,
+    );
+    out.at()
 }

@@ -1,16 +1,19 @@
 -- A text that was put at the front of a room. Assumes nothing.
 use mathlib.Core.Path.{◌≡◌, sym, ap, ◌∙◌}
-use mathlib.Core.List.{List}
+use mathlib.Core.List.{List, ◌++◌}
 use Prim.Native.Nat.{ℕ, ◌+◌, ◌≤◌}
 use native.Mathlib.Omega.{arith}
 use lib.ListN.{length, take, drop, replicate}
 use lib.Seq.{sets-eq, take_at}
-use Rattle.rules.specs.Calls.{reading}
+use Rattle.rules.specs.Calls.{reading, succeed}
 use Rattle.answers.specs.declared.Answer.{Answer}
 use Rattle.answers.specs.Answers.{outcome}
 use Rattle.answers.proofs.Told.{told_good}
 use Rattle.typed.specs.Writing.{text_of}
-use Rattle.puts.proofs.Putting.{put_length}
+use Rattle.puts.specs.Texts.{placed}
+use Rattle.puts.proofs.Putting.{length_placed}
+use Rattle.typed.specs.Calls.{in_room}
+use Rattle.reading.proofs.Handing.{room_fits}
 use Rattle.sheet_texts.specs.Sheets.{Good, most_text, PutsSheet}
 
 -- words that are not refused are those of a good description
@@ -22,18 +25,27 @@ pub room_enough : {t : List ℕ} → t ≡ replicate most_text 0 → most_text �
 room_enough e = omega (arith, ap length e)
 
 module _ {ws t u : List ℕ} {n : ℕ} (p : PutsSheet ws t u n) where
-  pub front_size : n ≡ length (text_of ws)
-  front_size = omega (arith, p.put.next)
-
   -- it is short enough for a count
   pub front_few : n ≤ most_text
-  front_few = omega (arith, front_size, p.few)
+  front_few = omega (arith, p.length_told, p.few)
 
   module _ (enough : most_text ≤ length t) where
     pub front_inside : n ≤ length u
-    front_inside = omega (arith, front_few, put_length p.put)
+    front_inside = omega (arith, front_few, ap length p.text, length_placed t 0 (text_of ws))
 
     pub front_text_lem : take n u ≡ text_of ws
+    unfolding placed
     front_text_lem =
-        ap (take n) (p.put.text ∙ sets-eq (text_of ws) t 0 (omega (arith, p.few)))
-        ∙ take_at (text_of ws) (drop (0 + length (text_of ws)) t) n (sym front_size)
+        ap (take n) (p.text ∙ sets-eq (text_of ws) t 0 (omega (arith, p.few)))
+        ∙ take_at (text_of ws) (drop (0 + length (text_of ws)) t) n (sym p.length_told)
+
+-- a text that is put at the front of a room, or copied there, is what is made in the room
+module _ (xs room : List ℕ) (fits : length xs ≤ length room) {n : ℕ} (e : n ≡ length xs) where
+  pub put_there : {u : List ℕ} → u ≡ placed room 0 xs → succeed n u ≡ in_room xs room
+  unfolding placed
+  put_there d = rw (e, d) (room_fits xs room fits)
+
+  pub copied_there : {us : List ℕ} → us ≡ xs → succeed n (us ++ drop n room) ≡ in_room xs room
+  copied_there d =
+      let zero : 0 + length xs ≡ length xs = omega arith in
+      rw (e, d) (ap (succeed (length xs)) (sym (sets-eq xs room 0 (omega (arith, fits)) ∙ rw zero)) ∙ room_fits xs room fits)

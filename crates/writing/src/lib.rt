@@ -9,7 +9,6 @@ ghost use Rattle.sheet_texts.specs.Sheets.{Good};
 
 use answers::refusals::NO_ROOM;
 use answers::{Answer, refuse, succeed};
-use puts::put_text;
 use sheet_texts::{MOST_TEXT, put_sheet, text_room};
 
 // Writes a good description as it is typed, in room that may be too small: the text is made in room of its own, and copied where it fits.
@@ -22,7 +21,7 @@ fn write_apart(words: &[u16], room: &mut [u8]) -> Answer
     if room.len() < used {
         return refuse(NO_ROOM, 0);
     }
-    put_text(room, 0, &text[..used]);
+    room[..used].copy_from_slice(&text[..used]);
     succeed(used as u32)
 }
 

@@ -11,7 +11,6 @@ use Rattle.answers.specs.Answers.{outcome}
 use Rattle.answers.proofs.Told.{told_good}
 use Rattle.typed.specs.Writing.{text_of}
 use Rattle.puts.specs.Texts.{placed}
-use Rattle.puts.proofs.Putting.{length_placed}
 use Rattle.typed.specs.Calls.{in_room}
 use Rattle.reading.proofs.Handing.{room_fits}
 use Rattle.sheet_texts.specs.Sheets.{Good, most_text, PutsSheet}
@@ -24,20 +23,12 @@ reads_good ws answers h = let (s, e) = told_good ws answers h in record { sheet 
 pub room_enough : {t : List ℕ} → t ≡ replicate most_text 0 → most_text ≤ length t
 room_enough e = omega (arith, ap length e)
 
-module _ {ws t u : List ℕ} {n : ℕ} (p : PutsSheet ws t u n) where
-  -- it is short enough for a count
-  pub front_few : n ≤ most_text
-  front_few = omega (arith, p.length_told, p.few)
-
-  module _ (enough : most_text ≤ length t) where
-    pub front_inside : n ≤ length u
-    front_inside = omega (arith, front_few, ap length p.text, length_placed t 0 (text_of ws))
-
-    pub front_text_lem : take n u ≡ text_of ws
-    unfolding placed
-    front_text_lem =
-        ap (take n) (p.text ∙ sets-eq (text_of ws) t 0 (omega (arith, p.few)))
-        ∙ take_at (text_of ws) (drop (0 + length (text_of ws)) t) n (sym p.length_told)
+-- what stands at the front of a room after a text was put there is the text
+pub front_text_lem : {ws t u : List ℕ} {n : ℕ} → PutsSheet ws t u n → most_text ≤ length t → take n u ≡ text_of ws
+unfolding placed
+front_text_lem {ws} {t} {u} {n} p enough =
+    ap (take n) (p.text ∙ sets-eq (text_of ws) t 0 (omega (arith, p.few)))
+    ∙ take_at (text_of ws) (drop (0 + length (text_of ws)) t) n (sym p.length_told)
 
 -- a text that is put at the front of a room, or copied there, is what is made in the room
 module _ (xs room : List ℕ) (fits : length xs ≤ length room) {n : ℕ} (e : n ≡ length xs) where

@@ -1,9 +1,11 @@
--- Words of two bytes: how many there are, and where the bytes of each stand. Assumes nothing.
-use mathlib.Core.Path.{◌≡◌, refl, ap, ◌∙◌}
+-- Words of two bytes: how many there are, and which pair of bytes each is. Assumes nothing.
+use mathlib.Core.Path.{◌≡◌, ap}
 use mathlib.Core.List.{List, [], ◌∷◌}
-use Prim.Native.Nat.{ℕ, zero, suc, ◌+◌, ◌*◌, ◌<◌}
+use Prim.Native.Nat.{ℕ, zero, suc, ◌*◌, ◌<◌, ◌≤◌}
 use native.Mathlib.Omega.{arith}
 use lib.ListN.{length, get_or}
+use Rattle.std.specs.Int.{w16, from_le_bytes}
+use Rattle.std.specs.Simd.{first_chunks}
 use Rattle.words.specs.Words.{words}
 
 pub words_length : (bs : List ℕ) (n : ℕ) → length bs ≡ 2 * n → length (words bs) ≡ n
@@ -13,14 +15,10 @@ words_length (low ∷ []) n h = let z : ⊥ = omega arith in absurd z
 words_length (low ∷ high ∷ bs) zero h = let z : ⊥ = omega arith in absurd z
 words_length (low ∷ high ∷ bs) (suc n) h = ap suc (words_length bs n (omega arith))
 
-pub words_at : (bs : List ℕ) (i : ℕ) → 2 * i + 1 < length bs → get_or (words bs) i 0 ≡ get_or bs (2 * i) 0 + 256 * get_or bs (2 * i + 1) 0
+pub pair_word : (bs : List ℕ) (n i : ℕ) → 2 * n ≤ length bs → i < n → from_le_bytes w16 (get_or (first_chunks 2 n bs) i []) ≡ get_or (words bs) i 0
 unfolding words
-words_at [] i h = let z : ⊥ = omega arith in absurd z
-words_at (low ∷ []) i h = let z : ⊥ = omega arith in absurd z
-words_at (low ∷ high ∷ bs) zero h = refl
-words_at (low ∷ high ∷ bs) (suc i) h =
-    let a : suc (suc (2 * i)) ≡ 2 * suc i = omega arith in
-    let b : suc (suc (2 * i + 1)) ≡ 2 * suc i + 1 = omega arith in
-    words_at bs i (omega arith)
-    ∙ ap (λ (k : ℕ). get_or (low ∷ high ∷ bs) k 0 + 256 * get_or bs (2 * i + 1) 0) a
-    ∙ ap (λ (k : ℕ). get_or (low ∷ high ∷ bs) (2 * suc i) 0 + 256 * get_or (low ∷ high ∷ bs) k 0) b
+pair_word [] n i h m = let z : ⊥ = omega arith in absurd z
+pair_word (low ∷ []) n i h m = let z : ⊥ = omega arith in absurd z
+pair_word (low ∷ high ∷ bs) zero i h m = let z : ⊥ = omega arith in absurd z
+pair_word (low ∷ high ∷ bs) (suc n) zero h m = omega arith
+pair_word (low ∷ high ∷ bs) (suc n) (suc i) h m = pair_word bs n i (omega arith) (omega arith)

@@ -1,13 +1,11 @@
 // The calls for C, as `talung_c` exports them: numbers and lent slices, with the answer packed in one number.
-#![tactic(auto)]
+#![tactic(auto, using(crate::proofs::Packing::packs))]
 
 ghost use Rattle.std.specs.Prelude.{◌≡◌};
 ghost use Rattle.rules.specs.Search.{plain_order};
 ghost use Rattle.rules.specs.Calls.{reading, opening, close, searching, check};
 ghost use Rattle.typed.specs.Calls.{from_text, to_text};
 ghost use Rattle.talung.specs.Packed.{packed, Packed};
-
-use answers::widths::{byte_number, count_number, number_long};
 
 // What one of the count adds to a packed answer.
 pub const COUNT_UNIT: u64 = 4294967296;
@@ -16,9 +14,7 @@ pub const COUNT_UNIT: u64 = 4294967296;
 fn pack(number: u8, count: u32) -> u64
     ensures { result ≡ packed number count }
 {
-    let low = number_long(byte_number(number));
-    let high = number_long(count_number(count));
-    low + COUNT_UNIT * high
+    u64::from(number) + COUNT_UNIT * u64::from(count)
 }
 
 // Reads a description, as `solver::read` does.

@@ -13,6 +13,7 @@ use std::io::{Read, Write};
 const INPUT_BYTES: usize = listing::MOST_BYTES + 1;
 
 // Room for the input.
+// Stays: a room of a fixed size, since a `Vec` fails where memory lacks, and the program answers there.
 fn input_room() -> [u8; INPUT_BYTES]
     ensures { length result ≡ most_bytes + 1 }
 {
@@ -24,6 +25,7 @@ fn take_all<R: Read>(reader: &mut R, bytes: &mut [u8]) -> io::Result<usize>
     ensures { ReadsAtMost result bytes.old }
 {
     let mut n = 0;
+    // Stays: `read_to_end` reads again after an interrupted read, which fails here, and `read_exact` loses the count at the end.
     while n < bytes.len() {
         let more = reader.read(&mut bytes[n..])?;
         if more == 0 {

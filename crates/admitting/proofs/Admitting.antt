@@ -13,11 +13,11 @@ use Rattle.rules.proofs.Tests.{clash}
 use Rattle.rules.proofs.Places.{place_small}
 use Rattle.rules.proofs.Calls.{well_formed_table, has_cells_cells, looked, admitted_out}
 use Rattle.rules.proofs.Called.{opening_refused, close_refused, search_refused, check_refused}
-use Rattle.answers.specs.declared.Answer.{Answer}
 use Rattle.answers.specs.declared.refusals.Refusal.{Refusal}
-use Rattle.answers.specs.Answers.{answered, refusal, outcome}
+use Rattle.std.specs.Prelude.{Ok, Err}
+use Rattle.answers.specs.Answers.{number_of, fault_of, refusal, Answer, answered, outcome}
+use Rattle.answers.proofs.Faults.{read_faulty}
 use Rattle.headers.specs.declared.Header.{Header}
-use Rattle.headers.specs.declared.HeaderFound.TheVariants.{Good, Refused}
 use Rattle.headers.specs.Found.{numbers_found}
 use Rattle.sheet.specs.Found.{description_found}
 use Rattle.sheet.proofs.Described.{described, described_one}
@@ -27,15 +27,15 @@ use Rattle.admitting.specs.Found.{admitted_found}
 module _ (asks : ℕ → List ℕ → Bool) (ws t : List ℕ) where
   -- ---- what `admit` finds
 
-  pub admit_undescribed : (q : Refusal) → Refused q ≡ description_found ws → Refused q ≡ admitted_found asks ws t
+  pub admit_undescribed : (q : Refusal) → Err q ≡ description_found ws → Err q ≡ admitted_found asks ws t
   unfolding admitted
   admit_undescribed q p = go (read ws) p
     where
-      go : (r : Reading Sheet) → Refused q ≡ numbers_found ws r → Refused q ≡ numbers_found ws (looked asks t r)
+      go : (r : Reading Sheet) → Err q ≡ numbers_found ws r → Err q ≡ numbers_found ws (looked asks t r)
       go (good s) e = clash (cc)
       go (refused n k) e = e
 
-  module _ {h : Header} (header : Good h ≡ description_found ws) {b : Bool} (said : b ≡ asks h.boards t) where
+  module _ {h : Header} (header : Ok h ≡ description_found ws) {b : Bool} (said : b ≡ asks h.boards t) where
     tested : (c : Bool) → b ≡ c → numbers_found ws (need 6 0 c (good (described ws h header).0)) ≡ admitted_found asks ws t
     unfolding admitted
     tested c e =
@@ -43,56 +43,71 @@ module _ (asks : ℕ → List ℕ → Bool) (ws t : List ℕ) where
         ap (λ (x : Bool). numbers_found ws (need 6 0 x (good d.0))) (sym e ∙ said ∙ ap (λ (v : ℕ). asks v t) d.1.boards)
         ∙ ap (λ (r : Reading Sheet). numbers_found ws (looked asks t r)) (sym d.1.means)
 
-    pub admit_no_table : not b ≡ true → Refused (refusal 6 0) ≡ admitted_found asks ws t
+    pub admit_no_table : not b ≡ true → Err (refusal 6 0) ≡ admitted_found asks ws t
     admit_no_table e = tested false (not-true b e)
 
-    pub admit_good : not b ≡ false → Good h ≡ admitted_found asks ws t
+    pub admit_good : not b ≡ false → Ok h ≡ admitted_found asks ws t
     admit_good e = header ∙ ap (numbers_found ws) (described ws h header).1.means ∙ tested true (not-false b e)
 
   -- ---- what is known then
 
   -- the header is that of a good description, and the table has what was asked for
-  admit_known : {h : Header} → Good h ≡ admitted_found asks ws t → (Good h ≡ description_found ws) × T (asks h.boards t)
+  admit_known : {h : Header} → Ok h ≡ admitted_found asks ws t → (Ok h ≡ description_found ws) × T (asks h.boards t)
   admit_known {h} p = go (admitted asks ws t) refl p
     where
-      go : (r : Reading Sheet) → admitted asks ws t ≡ r → Good h ≡ numbers_found ws r → (Good h ≡ description_found ws) × T (asks h.boards t)
+      go : (r : Reading Sheet) → admitted asks ws t ≡ r → Ok h ≡ numbers_found ws r → (Ok h ≡ description_found ws) × T (asks h.boards t)
       go (good s) e q =
           let known = admitted_out asks ws t s e in
-          let header : Good h ≡ description_found ws = q ∙ ap (numbers_found ws) (sym known.0) in
+          let header : Ok h ≡ description_found ws = q ∙ ap (numbers_found ws) (sym known.0) in
           let d = described ws h header in
           (header, subst (λ (n : ℕ). T (asks n t)) (ap (λ (u : Sheet). u.boards) (sym (described_one d.1 known.0)) ∙ sym d.1.boards) known.1)
       go (refused n k) e q = clash (cc)
 
   -- ---- a call that is refused at once
 
-  module _ (q : Refusal) (p : Refused q ≡ admitted_found asks ws t) where
-    is_refused : admitted asks ws t ≡ refused q.number q.place
-    is_refused = go (admitted asks ws t) p
+  -- it is refused with the number of a fault
+  admitted_faulty : (n k : ℕ) → admitted asks ws t ≡ refused n k → number_of (fault_of n) ≡ n
+  unfolding admitted
+  admitted_faulty n k = go (read ws) refl
+    where
+      formless : (b : Bool) (s : Sheet) → need 6 0 b (good s) ≡ refused n k → number_of (fault_of n) ≡ n
+      formless true s e = clash (cc)
+      formless false s e = let d : 6 ≡ n = cc in subst (λ (m : ℕ). number_of (fault_of m) ≡ m) d refl
+
+      go : (r : Reading Sheet) → read ws ≡ r → looked asks t r ≡ refused n k → number_of (fault_of n) ≡ n
+      go (good s) e d = formless (asks s.boards t) s d
+      go (refused m j) e d = let f : m ≡ n = cc in subst (λ (i : ℕ). number_of (fault_of i) ≡ i) f (read_faulty ws m j e)
+
+  module _ (q : Refusal) (p : Err q ≡ admitted_found asks ws t) where
+    is_refused : admitted asks ws t ≡ refused (number_of q.fault) q.place
+    is_refused = go (admitted asks ws t) refl p
       where
-        go : (r : Reading Sheet) → Refused q ≡ numbers_found ws r → r ≡ refused q.number q.place
-        go (good s) e = clash (cc)
-        go (refused n k) e = let f : q ≡ refusal n k = cc in ap (λ (r : Refusal). refused r.number r.place) (sym f)
+        go : (r : Reading Sheet) → admitted asks ws t ≡ r → Err q ≡ numbers_found ws r → admitted asks ws t ≡ refused (number_of q.fault) q.place
+        go (good s) i e = clash (cc)
+        go (refused n k) i e =
+            let f : q ≡ refusal n k = cc in
+            i ∙ ap (λ (m : ℕ). refused m k) (sym (admitted_faulty n k i)) ∙ ap (λ (r : Refusal). refused (number_of r.fault) r.place) (sym f)
 
     -- its place is a count
     pub admit_place : get_or ws 5 0 < 65536 → q.place < 2 ^ 32
     unfolding admitted
     admit_place small = go (read ws) refl is_refused
       where
-        formless : (b : Bool) (s : Sheet) → need 6 0 b (good s) ≡ refused q.number q.place → q.place < 2 ^ 32
+        formless : (b : Bool) (s : Sheet) → need 6 0 b (good s) ≡ refused (number_of q.fault) q.place → q.place < 2 ^ 32
         formless true s e = clash (cc)
         formless false s e = let d : 0 ≡ q.place = cc in omega (arith, d)
 
-        go : (r : Reading Sheet) → read ws ≡ r → looked asks t r ≡ refused q.number q.place → q.place < 2 ^ 32
+        go : (r : Reading Sheet) → read ws ≡ r → looked asks t r ≡ refused (number_of q.fault) q.place → q.place < 2 ^ 32
         go (good s) e d = formless (asks s.boards t) s d
         go (refused n k) e d = let f : k ≡ q.place = cc in omega (arith, place_small ws n k e, small, f)
 
 module _ (ws t : List ℕ) where
   -- what is known of a table that may hold anything, and of one whose cells are sets
-  pub admit_measured : {h : Header} → Good h ≡ admitted_found has_cells ws t → Measured h ws t
+  pub admit_measured : {h : Header} → Ok h ≡ admitted_found has_cells ws t → Measured h ws t
   admit_measured {h} p =
       let known = admit_known has_cells ws t p in record { header = known.0; cells = has_cells_cells h.boards t known.1 }
 
-  pub admit_admitted : {h : Header} → Good h ≡ admitted_found well_formed ws t → Admitted h ws t
+  pub admit_admitted : {h : Header} → Ok h ≡ admitted_found well_formed ws t → Admitted h ws t
   admit_admitted {h} p =
       let known = admit_known well_formed ws t p in
       record {
@@ -101,14 +116,14 @@ module _ (ws t : List ℕ) where
       }
 
   -- what a refusal is told as
-  module _ (q : Refusal) {a : Answer} (told : a ≡ answered q.number q.place) where
-    told_refused : outcome a t ≡ refuse q.number q.place t
+  module _ (q : Refusal) {a : Answer} (told : a ≡ answered (number_of q.fault) q.place) where
+    told_refused : outcome a t ≡ refuse (number_of q.fault) q.place t
     told_refused = ap (λ (a : Answer). outcome a t) told
 
-    pub opening_told : Refused q ≡ admitted_found has_cells ws t → outcome a t ≡ opening ws t
+    pub opening_told : Err q ≡ admitted_found has_cells ws t → outcome a t ≡ opening ws t
     opening_told p = told_refused ∙ sym (opening_refused t ws (is_refused has_cells ws t q p))
 
-    module _ (p : Refused q ≡ admitted_found well_formed ws t) where
+    module _ (p : Err q ≡ admitted_found well_formed ws t) where
       pub close_told : outcome a t ≡ close ws t
       close_told = told_refused ∙ sym (close_refused t ws (is_refused well_formed ws t q p))
 

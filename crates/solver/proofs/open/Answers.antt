@@ -1,19 +1,29 @@
 -- `open` meets its contract: it is refused at once, or what opening the table comes to. Assumes nothing.
-use mathlib.Core.Path.{sym, ◌∙◌}
-use Rattle.admitting.proofs.Admitting.{admit_measured, admit_place, opening_told}
-use Rattle.rules.specs.Calls.{has_cells}
+use mathlib.Core.Path.{◌≡◌, sym, ap, ◌∙◌}
+use Prim.Native.Nat.{◌^◌, ◌<◌}
 use native.Mathlib.Omega.{arith}
+use Rattle.std.specs.Prelude.{Err}
+use Rattle.std.proofs.lemmas.Result.{err_from_is_err_and}
+use Rattle.std.proofs.iter.Serving.{serving}
+use Rattle.answers.specs.declared.refusals.Refused.{Refused}
+use Rattle.answers.specs.Answers.{told}
+use Rattle.sheet.proofs.Mapped.{mapped, mapped_ok}
+use Rattle.rules.specs.Calls.{has_cells}
+use Rattle.admitting.proofs.Admitting.{admit_measured, admit_place, opening_told}
 use Rattle.solver.proofs.open.Goals as goal
+
+pub map_err-requires : goal.map_err-requires
+map_err-requires c e is =
+    let small : e.place < 2 ^ 32 = admit_place has_cells c.args.words.now c.args.table.now e (sym is ∙ c.admit.ensures) (omega (arith, c.type_inv.words 5)) in
+    grind (arith, serving, small)
+
+pub returns-in_err-h : goal.returns-in_err-h
+returns-in_err-h c =
+    let p = err_from_is_err_and c.from_residual.result c.from_residual.ensures.1 in
+    let (e, is, came) = mapped _ _ _ c.map_err.ensures.cases _ c.in_err-h.was in
+    let moved : ◌≡◌ {A = Refused} c.in_err-h.field-0.0 (record { fault = e.fault; count = e.place }) = grind (arith, serving, came) in
+    opening_told c.args.words.now c.args.table.now e (ap told (p.1 ∙ ap Err (p.2 ∙ moved))) (sym is ∙ c.admit.ensures)
 
 pub open_table-requires : goal.open_table-requires
 open_table-requires c =
-    admit_measured c.args.words.now c.args.table.now (sym c.in-Good.is ∙ c.admit.ensures)
-
-pub refuse_at-requires : goal.refuse_at-requires
-refuse_at-requires c =
-    admit_place has_cells c.args.words.now c.args.table.now _ (sym c.in-Refused.is ∙ c.admit.ensures) (omega (arith, c.type_inv.words 5))
-
-pub returns-in-Refused : goal.returns-in-Refused
-returns-in-Refused c =
-    opening_told c.args.words.now c.args.table.now _ c.refuse_at.ensures
-    (sym c.in-Refused.is ∙ c.admit.ensures)
+    admit_measured c.args.words.now c.args.table.now (sym (mapped_ok _ _ _ c.map_err.ensures.cases _ c.in_ok-h.was) ∙ c.admit.ensures)

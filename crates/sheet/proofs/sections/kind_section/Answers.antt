@@ -25,10 +25,10 @@ map_err-requires c e is =
 
 pub returns-in_err-rest : goal.returns-in_err-rest
 returns-in_err-rest c =
+    let more : 0 < c.args.count - c.loop.counter = omega arith in
     let p = err_from_is_err_and c.from_residual.result c.from_residual.ensures.1 in
     let (e, is, came) = mapped _ _ _ c.map_err.ensures.cases _ c.in_err-rest.was in
     let moved : c.in_err-rest.field-0.0 ≡ later_by c.loop.at e = grind (arith, serving, came) in
-    let more : 0 < c.args.count - c.loop.counter = omega arith in
     rw (p.1, p.2) (found_refused c.loop.invariant more (kind_refused_out _ _ (sym is ∙ c.kind_line.ensures)) moved)
 
 pub overflow_sub-at : goal.overflow_sub-at

@@ -9,8 +9,10 @@ use lib.ListN.{length, drop}
 use lib.Seq.{sets, sets-eq}
 use Rattle.rules.specs.Descriptions.{Sheet, Reading, read}
 use Rattle.rules.specs.Calls.{Outcome, refuse, succeed, given, reading}
-use Rattle.answers.specs.declared.Answer.{Answer}
-use Rattle.answers.specs.Answers.{outcome}
+use Rattle.std.specs.Prelude.{Result, Ok, Err}
+use Rattle.answers.specs.declared.refusals.Refused.{Refused}
+use Rattle.answers.specs.Answers.{Answer, told, outcome}
+use Rattle.answers.proofs.Faults.{some_number}
 use Rattle.answers.proofs.Told.{told_good, told_refused}
 use Rattle.typed.specs.Calls.{in_room}
 
@@ -35,3 +37,13 @@ module _ (ws : List ℕ) {a : Answer} (answers : outcome a tt ≡ reading ws) {L
 
   pub words_taken : (o : Outcome L) → a.number ≡ 0 → o ≡ given (read ws) l (λ s. o)
   words_taken o h = let (s, e) = told_good ws answers h in sym (ap (λ (r : Reading Sheet). given r l (λ s. o)) e)
+
+-- the same of the result
+module _ (ws : List ℕ) {r : Result ℕ Refused} (answers : outcome (told r) tt ≡ reading ws) {L : Type 0} (l : L) where
+  pub error_passed_on : (f : Sheet → Outcome L) {q : Refused} → r ≡ Err q → outcome (told (Err q)) l ≡ given (read ws) l f
+  error_passed_on f {q} e =
+      sym (ap (λ (r : Result ℕ Refused). outcome (told r) l) e)
+      ∙ passed_on ws answers l f (λ z. some_number q.fault (sym (ap (λ (r : Result ℕ Refused). (told r).number) e) ∙ z))
+
+  pub result_taken : (o : Outcome L) {n : ℕ} → r ≡ Ok n → o ≡ given (read ws) l (λ s. o)
+  result_taken o e = words_taken ws answers l o (ap (λ (r : Result ℕ Refused). (told r).number) e)

@@ -5,14 +5,14 @@ ghost use Rattle.std.specs.Prelude.{◌≡◌, ◌+◌, ◌≤◌, ◌<◌, min,
 ghost use Rattle.std.proofs.lemmas.List.Edits.{sets};
 ghost use Rattle.rules.specs.Descriptions.{most_words, read};
 ghost use Rattle.rules.specs.Calls.{given};
-ghost use Rattle.answers.specs.Answers.{outcome};
+ghost use Rattle.answers.specs.Answers.{told, outcome};
 ghost use Rattle.typed.specs.Calls.{most_count, in_room, from_text};
 ghost use Rattle.reading.specs.Joined.{header, Joins, Joined};
 
+use answers::Answer;
 use answers::limits::{HEADER_WORDS, MOST_BOARDS, MOST_KINDS, MOST_LINES};
-use answers::refusals::{NO_ROOM, NO_SHEET, OUT_OF_RANGE};
+use answers::refusals::{Fault, Refused};
 use answers::rooms::words_room;
-use answers::{Answer, refuse, succeed};
 use taken::put_words;
 use text_lines::{Gathered, gather, kinds_room};
 
@@ -56,17 +56,17 @@ fn join(words: &mut [u16], kinds: &[u16], lines: Gathered) -> usize
 #[tactic(auto, unfolding(rules::specs::Calls::reading))]
 fn hand_over(words: &[u16], room: &mut [u16]) -> Answer
     requires { length words.now ≤ most_words }
-    ensures { outcome result room.new ≡ given (read words.now) room.old (λ s. in_room words.now room.old) }
+    ensures { outcome (told result) room.new ≡ given (read words.now) room.old (λ s. in_room words.now room.old) }
 {
-    let read = solver::read(words);
-    if read.number != 0 {
-        return read;
-    }
+    solver::read(words)?;
     if room.len() < words.len() {
-        return refuse(NO_ROOM, 0);
+        return Err(Refused {
+            fault: Fault::NoRoom,
+            count: 0,
+        });
     }
     put_words(room, 0, words);
-    succeed(words.len() as u32)
+    Ok(words.len() as u32)
 }
 
 // Reads a typed sheet: the words of its description go to the front of the lent room, and the answer has how many they are. Refuses the first
@@ -74,22 +74,36 @@ fn hand_over(words: &[u16], room: &mut [u16]) -> Answer
 // the room as it came.
 #[tactic(auto, using(crate::proofs::Making::stopped_at, crate::proofs::Making::boards_out, crate::proofs::Making::lines_over, crate::proofs::Making::kinds_over))]
 pub fn from_text(text: &[u8], room: &mut [u16]) -> Answer
-    ensures { outcome result room.new ≡ from_text text.now room.old }
+    ensures { outcome (told result) room.new ≡ from_text text.now room.old }
 {
     let mut words = words_room();
     let mut kinds = kinds_room();
     let lines = match gather(text, &mut words, &mut kinds) {
         Ok(lines) => lines,
-        Err(line) => return refuse(NO_SHEET, line_count(line)),
+        Err(line) => {
+            return Err(Refused {
+                fault: Fault::NoSheet,
+                count: line_count(line),
+            });
+        }
     };
     if !(1..=MOST_BOARDS).contains(&usize::from(lines.boards)) {
-        return refuse(OUT_OF_RANGE, 0);
+        return Err(Refused {
+            fault: Fault::OutOfRange,
+            count: 0,
+        });
     }
     if MOST_LINES < lines.relations.lines {
-        return refuse(OUT_OF_RANGE, 1);
+        return Err(Refused {
+            fault: Fault::OutOfRange,
+            count: 1,
+        });
     }
     if MOST_KINDS < lines.kinds.lines {
-        return refuse(OUT_OF_RANGE, 2);
+        return Err(Refused {
+            fault: Fault::OutOfRange,
+            count: 2,
+        });
     }
     let total = join(&mut words, &kinds, lines);
     hand_over(&words[..total], room)

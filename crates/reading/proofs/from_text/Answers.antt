@@ -3,8 +3,6 @@ use mathlib.Core.Path.{◌≡◌, ap, ◌∙◌}
 use native.Mathlib.Omega.{arith}
 use lib.ListN.{length}
 use Rattle.std.proofs.lemmas.Grind.{common_steps}
-use Rattle.answers.specs.declared.Answer.{Answer}
-use Rattle.answers.specs.Answers.{outcome}
 use Rattle.rules.specs.Descriptions.{most_words}
 use Rattle.text_lines.specs.Gatherings.{kinds_room}
 use Rattle.reading.proofs.Making.{boards_out, joining, joined_told}
@@ -12,8 +10,7 @@ use Rattle.reading.proofs.from_text.Goals as goal
 
 pub returns-then-not-contains : goal.returns-then-not-contains
 returns-then-not-contains c =
-    ap (λ (a : Answer). outcome a c.args.room.now) c.refuse-then-not-contains.ensures
-    ∙ boards_out _ _ _ _ c.gather.ensures c.in-Ok.is c.args.room.now (λ low high. grind (arith, common_steps))
+    boards_out _ _ _ _ c.gather.ensures c.in-Ok.is c.args.room.now (λ low high. grind (arith, common_steps))
 
 pub join-total-requires : goal.join-total-requires
 join-total-requires c =

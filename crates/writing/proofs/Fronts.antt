@@ -5,19 +5,29 @@ use Prim.Native.Nat.{ℕ, ◌+◌, ◌≤◌}
 use native.Mathlib.Omega.{arith}
 use lib.ListN.{length, take, drop, replicate}
 use lib.Seq.{sets-eq, take_at}
-use Rattle.rules.specs.Calls.{reading, succeed}
-use Rattle.answers.specs.declared.Answer.{Answer}
-use Rattle.answers.specs.Answers.{outcome}
+use Rattle.rules.specs.Calls.{Outcome, reading, succeed}
+use Rattle.std.specs.Prelude.{Result, Ok}
+use Rattle.answers.specs.declared.refusals.Refused.{Refused}
+use Rattle.answers.specs.Answers.{Answer, told, outcome}
 use Rattle.answers.proofs.Told.{told_good}
 use Rattle.typed.specs.Writing.{text_of}
 use Rattle.puts.specs.Texts.{placed}
-use Rattle.typed.specs.Calls.{in_room}
-use Rattle.reading.proofs.Handing.{room_fits}
+use Rattle.typed.specs.Calls.{in_room, to_text}
+use Rattle.reading.proofs.Handing.{room_fits, result_taken}
 use Rattle.sheet_texts.specs.Sheets.{Good, most_text, PutsSheet}
 
 -- words that are not refused are those of a good description
 pub reads_good : (ws : List ℕ) {a : Answer} → outcome a tt ≡ reading ws → a.number ≡ 0 → Good ws
 reads_good ws answers h = let (s, e) = told_good ws answers h in record { sheet = s; reads = e }
+
+-- so are those of which the result is a count, and there the text decides
+module _ (ws : List ℕ) {r : Result ℕ Refused} (answers : outcome (told r) tt ≡ reading ws) {k : ℕ} (ok : r ≡ Ok k) where
+  pub read_good : Good ws
+  read_good = reads_good ws answers (ap (λ (r : Result ℕ Refused). (told r).number) ok)
+
+  pub written : (room : List ℕ) {o : Outcome (List ℕ)} → o ≡ in_room (text_of ws) room → o ≡ to_text ws room
+  unfolding to_text
+  written room p = p ∙ result_taken ws answers room (in_room (text_of ws) room) ok
 
 -- the room that a text is made in has space for the longest
 pub room_enough : {t : List ℕ} → t ≡ replicate most_text 0 → most_text ≤ length t

@@ -8,11 +8,10 @@ use Rattle.writing.proofs.write_apart.Goals as goal
 
 pub returns-then-room-used : goal.returns-then-room-used
 returns-then-room-used c =
-    rw c.refuse.ensures (room_small (text_of c.args.words.now) c.args.room.now (omega (arith, c.put_sheet-used.ensures.length_told, c.if-room-used.true)))
+    room_small (text_of c.args.words.now) c.args.room.now (omega (arith, c.put_sheet-used.ensures.length_told, c.if-room-used.true))
 
 pub returns : goal.returns
 returns c =
     let sheet = c.put_sheet-used.ensures in
     let text = c.copy_from_slice.ensures.after ∙ front_text_lem sheet (room_enough c.text_room-text.ensures) in
-    rw c.succeed.ensures
-    (copied_there (text_of c.args.words.now) c.args.room.now (omega (arith, sheet.length_told, c.if-room-used.false)) sheet.length_told text)
+    copied_there (text_of c.args.words.now) c.args.room.now (omega (arith, sheet.length_told, c.if-room-used.false)) sheet.length_told text

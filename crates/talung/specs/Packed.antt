@@ -1,7 +1,7 @@
 -- An outcome as C has it: one number, and what is lent as it is afterwards. Assumes nothing.
 use Rattle.std.specs.Prelude.{◌≡◌, ℕ, ◌+◌, ◌*◌, ◌/◌, ◌%◌, ◌^◌}
 use Rattle.rules.specs.Calls.{Outcome}
-use Rattle.answers.specs.declared.Answer.{Answer}
+use Rattle.answers.specs.Answers.{Answer}
 
 -- what one of the count adds
 abbrev pub count_unit : ℕ

@@ -7,16 +7,6 @@ use Rattle.answers.proofs.refusals.Refusal.refused.Kinds as refused_kinds
 use Rattle.answers.proofs.refusals.Refusal.refused.Reads as refused
 use Rattle.answers.proofs.refusals.Refusal.later.Kinds as later_kinds
 use Rattle.answers.proofs.refusals.Refusal.later.Reads as later
-use Rattle.answers.proofs.widths.byte_number.Kinds as byte_number_kinds
-use Rattle.answers.proofs.widths.byte_number.Reads as byte-number
-use Rattle.answers.proofs.widths.word_number.Kinds as word_number_kinds
-use Rattle.answers.proofs.widths.word_number.Reads as word_number
-use Rattle.answers.proofs.widths.count_number.Kinds as count_number_kinds
-use Rattle.answers.proofs.widths.count_number.Reads as count-number
-use Rattle.answers.proofs.widths.byte_word.Kinds as byte_word_kinds
-use Rattle.answers.proofs.widths.byte_word.Reads as byte_word
-use Rattle.answers.proofs.widths.number_long.Kinds as number_long_kinds
-use Rattle.answers.proofs.widths.number_long.Reads as number-long
 use Rattle.answers.proofs.rooms.table_room.Kinds as table_room_kinds
 use Rattle.answers.proofs.rooms.table_room.Reads as table-room
 use Rattle.answers.proofs.rooms.pairs_room.Kinds as pairs_room_kinds
@@ -32,21 +22,6 @@ refused_determined κs a asked x y d e p q = p ∙ sym q
 
 pub later_determined : OneResult 0 later_kinds.ps later_kinds.r later.Asked later.Learnt
 later_determined κs a asked x y d e p q = p ∙ sym q
-
-pub byte_number_determined : OneResult 0 byte_number_kinds.ps byte_number_kinds.r byte-number.Asked byte-number.Learnt
-byte_number_determined κs a asked x y d e p q = p ∙ sym q
-
-pub word_number_determined : OneResult 0 word_number_kinds.ps word_number_kinds.r word_number.Asked word_number.Learnt
-word_number_determined κs a asked x y d e p q = p ∙ sym q
-
-pub count_number_determined : OneResult 0 count_number_kinds.ps count_number_kinds.r count-number.Asked count-number.Learnt
-count_number_determined κs a asked x y d e p q = p ∙ sym q
-
-pub byte_word_determined : OneResult 0 byte_word_kinds.ps byte_word_kinds.r byte_word.Asked byte_word.Learnt
-byte_word_determined κs a asked x y d e p q = p ∙ sym q
-
-pub number_long_determined : OneResult 0 number_long_kinds.ps number_long_kinds.r number-long.Asked number-long.Learnt
-number_long_determined κs a asked x y d e p q = p ∙ sym q
 
 pub table_room_determined : OneResult 0 table_room_kinds.ps table_room_kinds.r table-room.Asked table-room.Learnt
 table_room_determined κs a asked x y d e p q = p ∙ sym q

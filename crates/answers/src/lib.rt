@@ -1,10 +1,9 @@
-// The numbers that the rules document fixes: refusals, limits with room for what they allow, and answers; and numbers in wider types.
+// The numbers that the rules document fixes: refusals, limits with room for what they allow, and answers.
 #![tactic(auto)]
 
 pub mod limits;
 pub mod refusals;
 pub mod rooms;
-pub mod widths;
 
 use crate::refusals::Refused;
 

@@ -4,7 +4,6 @@
 ghost use Rattle.std.specs.Prelude.{◌≡◌, ◌<◌, bit_and};
 ghost use Rattle.bits.specs.Sets.{word_bits, added, Taken};
 
-use answers::widths::count_number;
 use std::marker::Model;
 use std::ops::BitAnd;
 
@@ -47,7 +46,7 @@ impl NumberSet {
         if self.bits == 0 {
             return None;
         }
-        let i = count_number(self.bits.trailing_zeros());
+        let i = self.bits.trailing_zeros() as usize;
         self.bits -= 1 << i;
         Some(i)
     }

@@ -5,7 +5,6 @@ ghost use Rattle.std.specs.Prelude.{◌≡◌, ◌+◌, ◌≤◌, ◌<◌, leng
 ghost use Rattle.kinds.specs.Lines.{kind_at};
 
 use answers::limits::LINE_WORDS;
-use answers::widths::word_number;
 
 // p is a panel of this code, and feeds exactly the ways that stand from the word `first` up to the word `end`, where the next line begins.
 #[derive(Clone, Copy)]
@@ -23,10 +22,10 @@ pub fn kind_at(words: &[u16], at: usize) -> KindLine
 {
     let first = at + LINE_WORDS;
     KindLine {
-        p: word_number(words[at]),
+        p: usize::from(words[at]),
         code: words[at + 1],
         first,
-        end: first + word_number(words[at + 2]),
+        end: first + usize::from(words[at + 2]),
     }
 }
 
@@ -35,6 +34,5 @@ pub fn way(ways: &[u16], i: usize) -> usize
     requires { i < length ways.now }
     ensures { result ≡ slice_index ways.now i }
 {
-    let board = ways[i];
-    word_number(board)
+    usize::from(ways[i])
 }

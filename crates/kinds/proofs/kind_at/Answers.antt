@@ -7,7 +7,7 @@ use Rattle.kinds.proofs.kind_at.Goals as goal
 pub overflow_add-result-2 : goal.overflow_add-result-2
 overflow_add-result-2 c =
     let at = c.args.at in
-    omega (arith, c.word_number-2.ensures, c.type_inv.words (at + 2))
+    omega (arith, c.from-2.ensures, c.type_inv.words (at + 2))
 
 pub returns : goal.returns
-returns c = rw (c.word_number.ensures, c.word_number-2.ensures) refl
+returns c = rw (c.from.ensures, c.from-2.ensures) refl

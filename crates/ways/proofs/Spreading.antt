@@ -1,30 +1,23 @@
 -- Rule 5 by a walk over all pairs of ways, where one and the same place is narrowed by all relations. Assumes nothing.
 use mathlib.Core.Path.{◌≡◌, refl, subst}
-use mathlib.Core.Bool.{Bool, true, false, not}
-use mathlib.Core.List.{List, ◌++◌, flat_map}
+use mathlib.Core.Bool.{not}
+use mathlib.Core.List.{List, [], ◌++◌, flat_map}
 use Prim.Native.Nat.{ℕ, ◌+◌, ◌*◌, ◌≤◌, ◌<◌}
 use native.Mathlib.Omega.{arith}
 use lib.Dec.{eqb}
 use lib.ListN.{length}
-use Rattle.rules.specs.Relations.{relations, set_limit, A, S, set_to, set_of, full}
+use Rattle.rules.specs.Relations.{A, S}
 use Rattle.rules.specs.Descriptions.{KindLine}
 use Rattle.rules.specs.Tables.{cell, Table, up_to}
 use Rattle.rules.specs.Arrangements.{way, width}
-use Rattle.rules.specs.Closing.{unless, Rule, Idle, lies, only, ways_of, rule5}
+use Rattle.rules.specs.Closing.{Rule, Idle, lies, only, ways_of, rule5}
 use Rattle.rules.proofs.Members.{all_one, one_all, all_append, append_left, append_right}
 use Rattle.rules.proofs.Rules.{all_only, only_all, all_ways, ways_all, unless_in, unless_out}
-use Rattle.passes.specs.Passes.{Idles, Narrowed, Once}
-use Rattle.passes.proofs.Passes.{kept_as, once_strike, once_then, once_next, once_whole}
+use Rattle.passes.specs.Passes.{most_members, Idles, Narrowed, Ready, Once}
+use Rattle.passes.proofs.Passes.{kept_as, kept_few, once_strike, once_start, once_then, once_next, once_whole, ready_place, ready_kept}
+use Rattle.kinds.specs.declared.KindLine as declared
+use Rattle.kinds.specs.Lines.{ways_at, line_at, StandsIn}
 use Rattle.ways.specs.Ways.{apart}
-
--- what two places allow is a set
-pub apart_small : (i j : ℕ) → apart i j < set_limit
-unfolding relations set_to set_of full
-apart_small i j = go (eqb i j)
-  where
-    go : (b : Bool) → unless b S < set_limit
-    go true = omega arith
-    go false = omega arith
 
 -- ---- the walk
 
@@ -47,19 +40,50 @@ module _ {v : ℕ} where
       (subst (λ (z : ℕ). Once v (lies x z (λ t. b)) t a w (a + n)) e
       (subst (λ (z : ℕ). Once v (lies x y (λ t. z)) t a w (a + n)) f (once_strike x y m h l c)))
 
-  module _ (k : KindLine) (i : ℕ) where
-    pub beside_next : (j : ℕ) {x y m : ℕ} {t u w : List ℕ} {a b n : ℕ} → Once v (flat_map (beside k i) (up_to j)) t a u b
-        → x ≡ way k i → y ≡ way k j → m ≡ apart i j → v * x + y < length u → Narrowed u (v * x + y) m w n
-        → Once v (flat_map (beside k i) (up_to (j + 1))) t a w (b + n)
-    beside_next j s d e f l c = once_next (beside k i) j s (narrow_once d e f s.kept.table l c)
+-- Way i of a line that stands in the words, where the ways before it were walked, and it has been put below its panel.
+module _ {v : ℕ} {t : List ℕ} (ready : Ready v t) {ws : List ℕ} {l : declared.KindLine} (stands : StandsIn v ws l) (i : ℕ)
+    (here : i < length (ways_at ws l)) {u : List ℕ} {a : ℕ} (passed : Once v (flat_map (around (line_at ws l)) (up_to i)) t 0 u a) {y : ℕ}
+    (first : y ≡ way (line_at ws l) i) {w : List ℕ} {n : ℕ} (put : Narrowed u (v * l.p + y) A w n) where
+  first_board : y < v
+  first_board = omega (arith, first, stands.boards i here)
 
-    pub under_first : {x : ℕ} {t w : List ℕ} {a n : ℕ} → Table v t → x ≡ way k i → v * k.p + x < length t → Narrowed t (v * k.p + x) A w n
-        → Once v (under k i) t a w (a + n)
-    under_first h e l c = narrow_once refl e refl h l c
+  below_panel : Once v (under (line_at ws l) i) u a w (a + n)
+  below_panel = narrow_once refl first refl passed.kept.table (ready_place (ready_kept ready passed.kept) stands.board first_board) put
 
-    pub around_next : {j : ℕ} {t u x w : List ℕ} {a b c d : ℕ} → Once v (flat_map (around k) (up_to i)) t a u b → Once v (under k i) u b x c
-        → j ≤ width k → width k ≤ j → Once v (flat_map (beside k i) (up_to j)) x c w d → Once v (flat_map (around k) (up_to (i + 1))) t a w d
-    around_next s f h l n = once_next (around k) i s (once_then (under k i) f (once_whole (beside k i) (width k) h l n))
+  below_ready : Ready v w
+  below_ready = ready_kept ready (once_then (flat_map (around (line_at ws l)) (up_to i)) passed below_panel).kept
+
+  -- what has been struck is little
+  pub below_few : a + n ≤ most_members
+  below_few = kept_few ready (once_then (flat_map (around (line_at ws l)) (up_to i)) passed below_panel).kept
+
+  -- no other way was walked against it
+  pub beside_none : Once v (flat_map (beside (line_at ws l) i) []) w (a + n) w (a + n)
+  beside_none = once_start (beside (line_at ws l) i) below_ready.table
+
+  -- what a walk strikes from there is little too
+  pub walk_few : {rs : List Rule} {x : List ℕ} {b : ℕ} → Once v rs w (a + n) x b → b ≤ 2 * most_members
+  walk_few walked = omega (arith, below_few, kept_few below_ready walked.kept)
+
+  -- walked against the ways before j, and then against way j
+  module _ {j : ℕ} {x : List ℕ} {b : ℕ} (walked : Once v (flat_map (beside (line_at ws l) i) (up_to j)) w (a + n) x b) where
+    module _ (there : j < length (ways_at ws l)) {z : ℕ} (second : z ≡ way (line_at ws l) j) where
+      second_board : z < v
+      second_board = omega (arith, second, stands.boards j there)
+
+      pub beside_place : v * y + z < length x
+      beside_place = ready_place (ready_kept below_ready walked.kept) first_board second_board
+
+      pub beside_next : {m : ℕ} → m ≡ apart i j → {r : List ℕ} {k : ℕ} → Narrowed x (v * y + z) m r k
+          → Once v (flat_map (beside (line_at ws l) i) (up_to (j + 1))) w (a + n) r (b + k)
+      beside_next bound held = once_next (beside (line_at ws l) i) j walked (narrow_once first second bound walked.kept.table beside_place held)
+
+    -- and so against all
+    pub around_next : j ≤ length (ways_at ws l) → length (ways_at ws l) ≤ j → Once v (flat_map (around (line_at ws l)) (up_to (i + 1))) t 0 x b
+    around_next within whole =
+        once_next (around (line_at ws l)) i passed
+        (once_then (under (line_at ws l) i) below_panel
+        (once_whole (beside (line_at ws l) i) (length (ways_at ws l)) within whole walked))
 
 -- ---- the walk is rule 5
 

@@ -9,20 +9,21 @@ ghost use Rattle.kinds.specs.Sections.{HasKinds, WithKinds};
 ghost use Rattle.ways.specs.Ways.{apart};
 
 use kinds::{KindLine, kind_at, way};
+use relations::RelationSet;
 
 // What rule 5 allows two ways in the places i and j: side, or anything for one and the same place.
-fn apart(i: usize, j: usize) -> u8
+fn apart(i: usize, j: usize) -> RelationSet
     ensures { result ≡ apart i j }
 {
     if i == j {
-        relations::FULL
+        RelationSet::FULL
     } else {
-        relations::S
+        RelationSet::S
     }
 }
 
 // Rule 5 of one kind line: its ways lie below the panel and beside each other.
-fn rule5(v: usize, words: &[u16], line: KindLine, cells: &mut [u8]) -> u32
+fn rule5(v: usize, words: &[u16], line: KindLine, cells: &mut [RelationSet]) -> u32
     requires { Ready v cells.old × StandsIn v words.now line }
     ensures { Once v (rule5 (line_at words.now line)) cells.old 0 cells.new result }
 {
@@ -33,7 +34,7 @@ fn rule5(v: usize, words: &[u16], line: KindLine, cells: &mut [u8]) -> u32
     for i in 0..ways.len() {
         let y = way(ways, i);
         let k = v * line.p + y;
-        struck += tables::narrow(cells, k, relations::A);
+        struck += tables::narrow(cells, k, RelationSet::A);
         for j in 0..ways.len() {
             let l = v * y + way(ways, j);
             struck += tables::narrow(cells, l, apart(i, j));
@@ -43,18 +44,16 @@ fn rule5(v: usize, words: &[u16], line: KindLine, cells: &mut [u8]) -> u32
 }
 
 // Rule 5 of every kind line: its ways lie below the panel and beside each other.
-pub fn rules5(v: usize, count: usize, words: &[u16], cells: &mut [u8]) -> u32
+pub fn rules5(v: usize, count: usize, words: &[u16], cells: &mut [RelationSet]) -> u32
     requires { Ready v cells.old × HasKinds v count words.now }
     ensures { WithKinds v count words.now (λ ks. Once v (rules5 ks) cells.old 0 cells.new result) }
 {
     let mut struck = 0;
     let mut at = 0;
-    let mut left = count;
-    while 0 < left {
+    for _ in 0..count {
         let line = kind_at(words, at);
         struck += rule5(v, words, line, cells);
         at = line.end;
-        left -= 1;
     }
     struck
 }

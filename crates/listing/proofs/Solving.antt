@@ -1,5 +1,5 @@
 -- What is printed, by the tests that the code makes. Assumes nothing.
-use mathlib.Core.Path.{◌≡◌, sym, ap, ◌∙◌}
+use mathlib.Core.Path.{◌≡◌, refl, sym, ap, ◌∙◌, subst}
 use mathlib.Core.Bool.{Bool, true, false, ◌&&◌}
 use mathlib.Core.List.{List, ◌++◌}
 use Prim.Native.Nat.{ℕ, ◌%◌, ◌≤◌}
@@ -15,8 +15,11 @@ use Rattle.rules.proofs.Headers.{InRange}
 use Rattle.rules.proofs.Descriptions.{read_out}
 use Rattle.rules.proofs.Calls.{admitted_refused}
 use Rattle.rules.proofs.Called.{search_refused}
-use Rattle.answers.specs.declared.Answer.{Answer}
-use Rattle.answers.specs.Answers.{outcome}
+use Rattle.std.specs.Prelude.{Result, Ok, Err}
+use Rattle.answers.specs.declared.refusals.Refused.{Refused}
+use Rattle.answers.specs.Answers as answers_lem
+use Rattle.answers.specs.Answers.{number_of, Answer, outcome}
+use Rattle.answers.proofs.Faults.{some_number}
 use Rattle.answers.proofs.Told.{told_good}
 use Rattle.answers.proofs.Told as answers_told
 use Rattle.words.specs.Words.{words}
@@ -49,6 +52,17 @@ module _ (v : ℕ) (ws : List ℕ) {t w : List ℕ} {a : Answer} (full : t ≡ f
   pub search_told_found : a.number ≡ 0 → told v (searching plain_order ws (filled v) budget) ≡ heading v a.count ++ pairs v w
   search_told_found e = ap (told v) whole ∙ told_found v (outcome a w) e
 
+-- the same of its result
+module _ (v : ℕ) (ws : List ℕ) {t w : List ℕ} {r : Result ℕ Refused} (full : t ≡ filled v) (done : outcome (answers_lem.told r) w ≡ searching plain_order ws t budget) where
+  done_by : {x : Result ℕ Refused} → r ≡ x → outcome (answers_lem.told x) w ≡ searching plain_order ws t budget
+  done_by e = subst (λ (x : Result ℕ Refused). outcome (answers_lem.told x) w ≡ searching plain_order ws t budget) e done
+
+  pub search_told_error : {q : Refused} → r ≡ Err q → told v (searching plain_order ws (filled v) budget) ≡ refusal_line (number_of q.fault)
+  search_told_error {q} e = search_told_refused v ws {a = answers_lem.told (Err q)} full (done_by e) (some_number q.fault)
+
+  pub search_told_ok : {n : ℕ} → r ≡ Ok n → told v (searching plain_order ws (filled v) budget) ≡ heading v n ++ pairs v w
+  search_told_ok {n} e = search_told_found v ws {a = answers_lem.told (Ok n)} full (done_by e) refl
+
 -- ---- a description
 
 module _ (ws : List ℕ) where
@@ -72,6 +86,17 @@ module _ (ws : List ℕ) where
         let t = filled (get_or ws 0 0) in
         ap (told (get_or ws 0 0)) (search_refused t ws plain_order budget (admitted_refused well_formed ws t a.number a.count (answers_told.told_refused ws answers f)))
         ∙ told_refused (get_or ws 0 0) _ f
+
+  -- and from its result
+  module _ {r : Result ℕ Refused} (answers : outcome (answers_lem.told r) tt ≡ reading ws) where
+    read_by : {x : Result ℕ Refused} → r ≡ x → outcome (answers_lem.told x) tt ≡ reading ws
+    read_by e = subst (λ (x : Result ℕ Refused). outcome (answers_lem.told x) tt ≡ reading ws) e answers
+
+    pub ok_in_range : {n : ℕ} → r ≡ Ok n → InRange ws
+    ok_in_range {n} e = good_in_range {a = answers_lem.told (Ok n)} (read_by e) refl
+
+    pub solved_error : {q : Refused} → r ≡ Err q → solved ws ≡ refusal_line (number_of q.fault)
+    solved_error {q} e = solved_refused {a = answers_lem.told (Err q)} (read_by e) (some_number q.fault)
 
 -- ---- the bytes
 

@@ -48,13 +48,13 @@ fn put_solved(out: &mut Writer, words: &[u16], v: usize, table: &mut [u8])
     requires { (v ≤ most_boards) × (table.old ≡ filled v) × HasRoom out.old (told v (searching plain_order words.now (filled v) budget)) }
     ensures { Put out.old (told v (searching plain_order words.now (filled v) budget)) out.new }
 {
-    let found = solver::search(words, table, BUDGET);
-    if found.number != 0 {
-        put_refusal(out, found.number);
-        return;
+    match solver::search(words, table, BUDGET) {
+        Ok(tries) => {
+            put_heading(out, v, tries);
+            put_pairs(out, v, table);
+        }
+        Err(refused) => put_refusal(out, u8::from(refused.fault)),
     }
-    put_heading(out, v, found.count);
-    put_pairs(out, v, table);
 }
 
 // Puts what is printed for the words of a description.
@@ -62,9 +62,8 @@ fn put_words(out: &mut Writer, words: &[u16])
     requires { HasRoom out.old (solved words.now) }
     ensures { Put out.old (solved words.now) out.new }
 {
-    let read = solver::read(words);
-    if read.number != 0 {
-        put_refusal(out, read.number);
+    if let Err(refused) = solver::read(words) {
+        put_refusal(out, u8::from(refused.fault));
         return;
     }
     let v = usize::from(words[0]);

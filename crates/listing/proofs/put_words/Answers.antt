@@ -8,54 +8,56 @@ use lib.ListN.{length, get_or, take, replicate, length-replicate}
 use Rattle.rules.specs.Relations.{full}
 use Rattle.rules.specs.Descriptions.{most_boards, most_cells}
 use Rattle.rules.specs.Tables.{filled}
+use Rattle.rules.proofs.Headers.{InRange}
 use Rattle.rules.proofs.Full.{filled_cells, filled_taken}
-use Rattle.answers.specs.declared.Answer.{Answer}
 use Rattle.puts.proofs.Putting.{fits_as, put_as}
-use Rattle.rules.specs.Calls.{reading}
-use Rattle.answers.specs.Answers.{outcome}
-use Rattle.listing.proofs.Solving.{good_in_range, solved_refused, solved_searched}
+use Rattle.listing.specs.Listings.{refusal_line}
+use Rattle.listing.proofs.Solving.{ok_in_range, solved_error, solved_searched}
 use Rattle.listing.proofs.put_words.Goals as goal
 
--- a good description has few boards
-few : (ws : List ℕ) {a : Answer} {v : ℕ} → outcome a tt ≡ reading ws → a.number ≡ 0 → v ≡ get_or ws 0 0 → v ≤ most_boards
-few ws d z e = omega (arith, (good_in_range ws d z).boards)
-
--- as many cells as they ask for are in the room for a table, and are a full table
-module _ {v : ℕ} (h : v ≤ most_boards) {t : List ℕ} (e : t ≡ replicate most_cells full) where
-  cells : v * v ≤ most_cells
-  cells = mul-le-mul h h
-
-  in_room_lem : v * v ≤ length t
-  in_room_lem = omega (arith, cells, ap length e, length-replicate most_cells full)
-
-  taken : take (v * v) t ≡ filled v
-  taken = ap (take (v * v)) e ∙ filled_taken v most_cells cells
-
 pub put_refusal-requires : goal.put_refusal-requires
-put_refusal-requires c = fits_as (solved_refused c.args.words.now c.read-read.ensures c.if-read-ne0.true) c.requires
+put_refusal-requires c =
+    fits_as (solved_error c.args.words.now c.read.ensures c.in-Err.is ∙ sym (ap refusal_line c.from.ensures)) c.requires
 
-pub returns-then-read-ne0 : goal.returns-then-read-ne0
-returns-then-read-ne0 c = put_as (sym (solved_refused c.args.words.now c.read-read.ensures c.if-read-ne0.true)) c.put_refusal.ensures
+pub returns-in-Err : goal.returns-in-Err
+returns-in-Err c =
+    put_as (ap refusal_line c.from.ensures ∙ sym (solved_error c.args.words.now c.read.ensures c.in-Err.is)) c.put_refusal.ensures
+
+-- a good description has a first word, which is in range: as many cells as its boards ask for are in the room for a table, and are a full one
+module _ {ws : List ℕ} (range : InRange ws) {v : ℕ} (first : v ≡ get_or ws 0 0) where
+  few : v ≤ most_boards
+  few = omega (arith, range.boards, first)
+
+  cells : v * v ≤ most_cells
+  cells = mul-le-mul few few
+
+  module _ {r : List ℕ} (room : r ≡ replicate most_cells full) where
+    inside : v * v ≤ length r
+    inside = omega (arith, cells, ap length room ∙ length-replicate most_cells full)
+
+    taken : take (v * v) r ≡ filled v
+    taken = ap (take (v * v)) room ∙ filled_taken v most_cells cells
 
 pub bounds-words-0 : goal.bounds-words-0
-bounds-words-0 c = omega (arith, (good_in_range c.args.words.now c.read-read.ensures c.if-read-ne0.false).six)
+bounds-words-0 c = omega (arith, (ok_in_range c.args.words.now c.read.ensures c.in_default.is).six)
 
 pub overflow_mul-n : goal.overflow_mul-n
-overflow_mul-n c =
-    let h = few c.args.words.now c.read-read.ensures c.if-read-ne0.false c.from-v.ensures in record { fits = omega (arith, mul-le-mul h h) }
+overflow_mul-n c = record { fits = omega (arith, cells (ok_in_range c.args.words.now c.read.ensures c.in_default.is) c.from-v.ensures) }
 
 pub slice_bounds-table-end : goal.slice_bounds-table-end
-slice_bounds-table-end c = in_room_lem (few c.args.words.now c.read-read.ensures c.if-read-ne0.false c.from-v.ensures) c.full_room-table.ensures
+slice_bounds-table-end c = inside (ok_in_range c.args.words.now c.read.ensures c.in_default.is) c.from-v.ensures c.full_room-table.ensures
 
 pub slice_bounds-put_solved-end : goal.slice_bounds-put_solved-end
 slice_bounds-put_solved-end c =
-    let h = few c.args.words.now c.read-read.ensures c.if-read-ne0.false c.from-v.ensures in
-    sym (ap length (taken h c.full_room-table.ensures) ∙ filled_cells c.from-v.result)
+    sym (ap length (taken (ok_in_range c.args.words.now c.read.ensures c.in_default.is) c.from-v.ensures c.full_room-table.ensures) ∙ filled_cells c.from-v.result)
 
 pub put_solved-requires : goal.put_solved-requires
 put_solved-requires c =
-    let h = few c.args.words.now c.read-read.ensures c.if-read-ne0.false c.from-v.ensures in
-    (h, taken h c.full_room-table.ensures, fits_as (solved_searched c.args.words.now c.from-v.ensures) c.requires)
+    let range = ok_in_range c.args.words.now c.read.ensures c.in_default.is in (
+      few range c.from-v.ensures,
+      taken range c.from-v.ensures c.full_room-table.ensures,
+      fits_as (solved_searched c.args.words.now c.from-v.ensures) c.requires,
+    )
 
 pub returns : goal.returns
 returns c = put_as (sym (solved_searched c.args.words.now c.from-v.ensures)) c.put_solved.ensures

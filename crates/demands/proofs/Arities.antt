@@ -26,7 +26,7 @@ use Rattle.rules.proofs.Readings.{later_out}
 use Rattle.rules.proofs.KindWords.{ways_word}
 use Rattle.rules.proofs.Descriptions.{meant_out, read_well_formed}
 use Rattle.meanings.proofs.Sheets.{typed_made}
-use Rattle.answers.specs.declared.Answer.{Answer}
+use Rattle.answers.specs.Answers.{Answer}
 use Rattle.answers.proofs.Outcomes.{says}
 use Rattle.demands.specs.Entries.{Reads, AnyCall, ReadingText, WritingText}
 use Rattle.demands.specs.Runs.{TableCall}

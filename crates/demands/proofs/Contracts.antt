@@ -45,6 +45,7 @@ use Rattle.listing.proofs.unread.Kinds as unread_kinds
 use Rattle.listing.proofs.unread.Reads as unread
 use Rattle.listing.proofs.unread.Statement as unread_stated
 use Rattle.listing.proofs.unread.Met as unread_met
+use Rattle.answers.specs.Answers.{told}
 use Rattle.demands.specs.Entries.{Reads, Opening, Closing, Searching, Checking, ReadingText, WritingText}
 
 -- ---- whatever is lent
@@ -79,25 +80,25 @@ every_page = (
 
 -- ---- what is learnt of a call
 
-pub read_learnt : Teaches 1 read_kinds.ps read_kinds.r read.Learnt (λ κs a x e. Reads a.0.now x)
+pub read_learnt : Teaches 1 read_kinds.ps read_kinds.r read.Learnt (λ κs a x e. Reads a.0.now (told x))
 read_learnt κs a x e h = h
 
-pub open_learnt : Teaches 2 open_kinds.ps open_kinds.r opens.Learnt (λ κs a x e. Opening a.0.now a.1.0.now x e.1.0.now)
+pub open_learnt : Teaches 2 open_kinds.ps open_kinds.r opens.Learnt (λ κs a x e. Opening a.0.now a.1.0.now (told x) e.1.0.now)
 open_learnt κs a x e h = h
 
-pub close_learnt : Teaches 2 close_kinds.ps close_kinds.r close.Learnt (λ κs a x e. Closing a.0.now a.1.0.now x e.1.0.now)
+pub close_learnt : Teaches 2 close_kinds.ps close_kinds.r close.Learnt (λ κs a x e. Closing a.0.now a.1.0.now (told x) e.1.0.now)
 close_learnt κs a x e h = h
 
-pub search_learnt : Teaches 2 search_kinds.ps search_kinds.r search.Learnt (λ κs a x e. Searching plain_order a.0.now a.1.0.now a.1.1.0 x e.1.0.now)
+pub search_learnt : Teaches 2 search_kinds.ps search_kinds.r search.Learnt (λ κs a x e. Searching plain_order a.0.now a.1.0.now a.1.1.0 (told x) e.1.0.now)
 search_learnt κs a x e h = h
 
-pub check_learnt : Teaches 2 check_kinds.ps check_kinds.r check.Learnt (λ κs a x e. Checking a.0.now a.1.0.now x)
+pub check_learnt : Teaches 2 check_kinds.ps check_kinds.r check.Learnt (λ κs a x e. Checking a.0.now a.1.0.now (told x))
 check_learnt κs a x e h = h
 
-pub from_text_learnt : Teaches 2 from_text_kinds.ps from_text_kinds.r from-text.Learnt (λ κs a x e. ReadingText a.0.now a.1.0.now x e.1.0.now)
+pub from_text_learnt : Teaches 2 from_text_kinds.ps from_text_kinds.r from-text.Learnt (λ κs a x e. ReadingText a.0.now a.1.0.now (told x) e.1.0.now)
 from_text_learnt κs a x e h = h
 
-pub to_text_learnt : Teaches 2 to_text_kinds.ps to_text_kinds.r to-text.Learnt (λ κs a x e. WritingText a.0.now a.1.0.now x e.1.0.now)
+pub to_text_learnt : Teaches 2 to_text_kinds.ps to_text_kinds.r to-text.Learnt (λ κs a x e. WritingText a.0.now a.1.0.now (told x) e.1.0.now)
 to_text_learnt κs a x e h = h
 
 -- Of the program's page: it is the one that 01 says, of the bytes that were read, or where none could be.

@@ -21,8 +21,7 @@ use Rattle.rules.proofs.Arrangements.{arrangement_whole, arrangement_kept}
 use Rattle.rules.proofs.Largest.{closing_largest, largest_unique}
 use Rattle.rules.proofs.Calls.{strikes_counted, strikes_most}
 use Rattle.rules.proofs.Stages.{first_among, stage_clash, stages_clash, stages_table}
-use Rattle.answers.specs.declared.Answer.{Answer}
-use Rattle.answers.specs.Answers.{outcome}
+use Rattle.answers.specs.Answers.{Answer, outcome}
 use Rattle.rules.proofs.Called.{by_cells, opening_good, close_good}
 use Rattle.demands.specs.Entries.{Opening, Closing}
 use Rattle.demands.specs.Runs.{Stage, sheets, contradictory, Called, Opened}

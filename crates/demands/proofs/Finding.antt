@@ -18,8 +18,7 @@ use Rattle.rules.proofs.Calls.{well_formed_table, admitted_out, arrangement_arra
 use Rattle.rules.proofs.Largest.{closing_largest}
 use Rattle.rules.proofs.Search.{search_found, search_none, cap_case, cap_more}
 use Rattle.rules.proofs.Full.{full_table}
-use Rattle.answers.specs.declared.Answer.{Answer}
-use Rattle.answers.specs.Answers.{outcome}
+use Rattle.answers.specs.Answers.{Answer, outcome}
 use Rattle.answers.proofs.Outcomes.{says, counts, leaves}
 use Rattle.rules.proofs.Called.{search_refused, search_good, by_test, check_good}
 use Rattle.demands.specs.Entries.{Searching, Checking, checks}

@@ -20,8 +20,7 @@ use Rattle.rules.proofs.Largest.{closing_largest, closing_again}
 use Rattle.rules.proofs.Search.{cap_in}
 use Rattle.rules.proofs.Calls.{has_cells_cells, admitted_refused, admitted_no_table}
 use Rattle.rules.proofs.Called.{by_cells, opening_refused, opening_good, close_good, search_good}
-use Rattle.answers.specs.declared.Answer.{Answer}
-use Rattle.answers.specs.Answers.{answered, outcome}
+use Rattle.answers.specs.Answers.{Answer, answered, outcome}
 use Rattle.answers.proofs.Outcomes.{says, outcome_determined}
 use Rattle.demands.specs.Entries.{Opening, Closing, Searching}
 use Rattle.demands.specs.Sentences.{Cells}

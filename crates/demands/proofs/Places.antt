@@ -19,7 +19,7 @@ use Rattle.rules.proofs.PlacedKinds.{placing_agreed}
 use Rattle.rules.proofs.PlacedHeaders.{placing_header}
 use Rattle.rules.proofs.Places.{placing_read}
 use Rattle.meanings.proofs.Sheets.{typed_made}
-use Rattle.answers.specs.declared.Answer.{Answer}
+use Rattle.answers.specs.Answers.{Answer}
 use Rattle.answers.proofs.Outcomes.{says, counts}
 use Rattle.demands.specs.Entries.{Reads, AnyCall, ReadingText, WritingText}
 use Rattle.demands.specs.Runs.{TableCall}

@@ -16,8 +16,7 @@ use Rattle.rules.proofs.Descriptions.{read_bounded}
 use Rattle.rules.proofs.Tests.{clash, T-decide}
 use Rattle.rules.proofs.Calls.{given_refused, given_no_table, given_good}
 use Rattle.rules.proofs.Called.{by_cells, by_test}
-use Rattle.answers.specs.declared.Answer.{Answer}
-use Rattle.answers.specs.Answers.{outcome}
+use Rattle.answers.specs.Answers.{Answer, outcome}
 use Rattle.answers.proofs.Outcomes.{says, counts, leaves}
 use Rattle.demands.specs.Entries.{Opening, Call, closes, searches, checks, AnyCall, opens, calls, Refuses}
 use Rattle.demands.specs.Runs.{TableCall}

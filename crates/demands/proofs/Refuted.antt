@@ -24,7 +24,7 @@ use Rattle.rules.proofs.Largest.{closing_largest}
 use Rattle.rules.proofs.Search.{plain_order_lem, least_unique, search_found}
 use Rattle.rules.proofs.Calls.{well_formed_table, arrangement_arranged, arranged_arrangement}
 use Rattle.rules.proofs.Full.{full_table}
-use Rattle.answers.specs.declared.Answer.{Answer}
+use Rattle.answers.specs.Answers.{Answer}
 use Rattle.demands.specs.Runs.{TableCall, Stage, Called}
 use Rattle.demands.specs.Sentences.{SearchCall, CheckCall, Cells, Demand1, stated, Demand2, ClosingSentence, ClosesEach, Demand3}
 

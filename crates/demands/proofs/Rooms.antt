@@ -20,8 +20,7 @@ use Rattle.typed.specs.Calls.{most_count, in_room, read_typed, from_text, to_tex
 use Rattle.meanings.proofs.Sheets.{typed_made, made_typed}
 use Rattle.meanings.proofs.Malformed.{malformed_first, first_malformed, one_fault}
 use Rattle.sheet_texts.specs.Sheets.{Good}
-use Rattle.answers.specs.declared.Answer.{Answer}
-use Rattle.answers.specs.Answers.{answered, outcome}
+use Rattle.answers.specs.Answers.{Answer, answered, outcome}
 use Rattle.answers.proofs.Outcomes.{says, counts, leaves}
 use Rattle.demands.specs.Entries.{ReadingText, WritingText}
 use Rattle.demands.specs.Texts.{Succeeds}

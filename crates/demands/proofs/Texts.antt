@@ -12,7 +12,7 @@ use Rattle.meanings.proofs.Sheets.{typed_made, one_meaning}
 use Rattle.returns.proofs.Back.{there_and_back as text-returns, read_written_read}
 use Rattle.sheet_texts.specs.Sheets.{Good}
 use Rattle.sheet_texts.proofs.Few.{text_few}
-use Rattle.answers.specs.declared.Answer.{Answer}
+use Rattle.answers.specs.Answers.{Answer}
 use Rattle.answers.proofs.Outcomes.{outcome_determined, says, counts}
 use Rattle.demands.specs.Entries.{ReadingText, WritingText}
 use Rattle.demands.specs.Texts.{Succeeds, RoomKept, TextReader, TextWriter, ThereAndBack}

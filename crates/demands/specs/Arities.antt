@@ -5,7 +5,7 @@ use mathlib.Core.List.{List, ◌∷◌, ◌++◌, Memᴰ}
 use Rattle.rules.specs.Descriptions.{KindLine, Sheet, good, meant, read, OneArity}
 use Rattle.rules.specs.Arrangements.{Alike}
 use Rattle.rules.specs.Closing.{agree}
-use Rattle.answers.specs.declared.Answer.{Answer}
+use Rattle.answers.specs.Answers.{Answer}
 use Rattle.demands.specs.Runs.{TableCall}
 use Rattle.demands.specs.Sentences.{EachCall}
 use Rattle.demands.specs.Texts.{RoomCall, EachRoom, EachSheet}

@@ -2,8 +2,7 @@
 use Rattle.std.specs.Prelude.{◌≡◌, List, ℕ}
 use Rattle.rules.specs.Calls.{reading, opening, close, searching, check}
 use Rattle.typed.specs.Calls.{from_text, to_text}
-use Rattle.answers.specs.declared.Answer.{Answer}
-use Rattle.answers.specs.Answers.{outcome}
+use Rattle.answers.specs.Answers.{Answer, outcome}
 
 -- reading the words ws may answer a
 abbrev pub Reads : List ℕ → Answer → Type 0

@@ -4,8 +4,7 @@ use Rattle.std.specs.Prelude.{◌≡◌, true, false, ◌&&◌, ◌↔◌, List,
 use Rattle.rules.specs.Descriptions.{most_boards, Sheet, good, read}
 use Rattle.rules.specs.Tables.{filled}
 use Rattle.rules.specs.Calls.{Outcome, refuse, succeed, opening, close}
-use Rattle.answers.specs.declared.Answer.{Answer}
-use Rattle.answers.specs.Answers.{answered}
+use Rattle.answers.specs.Answers.{Answer, answered}
 use Rattle.demands.specs.Runs.{TableCall}
 use Rattle.demands.specs.Sentences.{SearchCall, Cells, EachOpened}
 

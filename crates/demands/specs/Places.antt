@@ -4,7 +4,7 @@ use Rattle.std.specs.Prelude.{◌≡◌, List, ◌∷◌, ◌++◌, ℕ, suc, �
 use Rattle.rules.specs.Expressions.{expression, Longest}
 use Rattle.rules.specs.Descriptions.{most_boards, most_lines, most_kinds, most_expression_words, most_ways, Reading, good, refused, Front, next, meaning, relation_line, kind_line, section, after_header, kind_words, agreed, read}
 use Rattle.rules.specs.Places.{Placing}
-use Rattle.answers.specs.declared.Answer.{Answer}
+use Rattle.answers.specs.Answers.{Answer}
 use Rattle.demands.specs.Runs.{TableCall}
 use Rattle.demands.specs.Sentences.{EachCall}
 use Rattle.demands.specs.Texts.{RoomCall, EachRoom, EachSheet}

@@ -1,7 +1,7 @@
 -- Runs of calls in stages, over any calls: all closing, or the first opening. What each may answer and leave is all that is known of it. Assumes nothing.
 use Rattle.std.specs.Prelude.{◌≡◌, Bool, false, ◌||◌, List, [], ◌∷◌, ℕ, nat_eq}
 use Rattle.rules.specs.Descriptions.{Sheet, good, read}
-use Rattle.answers.specs.declared.Answer.{Answer}
+use Rattle.answers.specs.Answers.{Answer}
 
 -- What a call that is lent the description ws and the table t may answer, a, and leave of the table, w.
 abbrev pub TableCall : Type 1

@@ -9,8 +9,7 @@ use Rattle.rules.specs.Search.{End, tries, search, Least, Nowhere}
 use Rattle.rules.specs.Stages.{Stages}
 use Rattle.trees.specs.Trees.{DrawnFrom, NoTree}
 use Rattle.clauses.specs.Clauses.{Solves, Unsolvable}
-use Rattle.answers.specs.declared.Answer.{Answer}
-use Rattle.answers.specs.Answers.{answered}
+use Rattle.answers.specs.Answers.{Answer, answered}
 use Rattle.demands.specs.Entries.{Refuses}
 use Rattle.demands.specs.Published.{OfPublished}
 use Rattle.demands.specs.Runs.{TableCall, Stage, sheets, contradictory, Called, Opened}

@@ -7,7 +7,7 @@ use Rattle.typed.specs.Grammar.{lines_of, SheetTyped, FirstMalformed}
 use Rattle.typed.specs.Writing.{text_of}
 use Rattle.typed.specs.Calls.{most_count}
 use Rattle.sheet_texts.specs.Sheets.{Good, most_text}
-use Rattle.answers.specs.declared.Answer.{Answer}
+use Rattle.answers.specs.Answers.{Answer}
 
 -- What a call that is lent a text or words, xs, and a room may answer, a, and leave of the room, w.
 abbrev pub RoomCall : Type 1

@@ -1,6 +1,5 @@
 -- Visits one after the other, and pairs taken off the list one after the other: what they keep, and what is left when nothing is on the list. Assumes nothing.
 use mathlib.Core.Path.{◌≡◌, sym, subst}
-use mathlib.Core.Bool.{Bool, true, false}
 use mathlib.Core.List.{List, ◌++◌, Memᴰ}
 use Prim.Native.Nat.{ℕ, ◌+◌, ◌*◌, ◌^◌, ◌-◌, ◌≤◌, ◌<◌}
 use native.Mathlib.Nat.{lt_of_lt_of_le, mul-le-mul}
@@ -8,28 +7,30 @@ use native.Mathlib.Omega.{arith}
 use lib.Dec.{T}
 use lib.ListN.{length, get_or, replicate, length-replicate}
 use lib.Pow.{pow_pos, pow_mono}
-use Rattle.std.specs.Prelude.{Some}
+use Rattle.std.specs.Prelude.{Some, Result, Ok, Err, IsErr}
 use Rattle.rules.specs.Relations.{has}
 use Rattle.rules.specs.Descriptions.{most_boards, most_cells, KindLine}
 use Rattle.rules.specs.Tables.{Inside, total}
 use Rattle.rules.specs.Arrangements.{way, width}
-use Rattle.rules.specs.Closing.{Idle, rules2, rules3, rules6, rules7}
+use Rattle.rules.proofs.Tests.{clash}
+use Rattle.rules.specs.Closing.{Rule, Idle, rules2, rules3, rules6, rules7}
 use Rattle.rules.proofs.Digits.{has_zero, has_small}
 use Rattle.rules.proofs.Members.{zeros, all_append, append_left, append_right}
 use Rattle.rules.proofs.Inside.{inside_refl, inside_trans, total_mono}
-use Rattle.passes.specs.Passes.{Idles, Ready}
+use Rattle.passes.specs.Passes.{Clash, Idles, Ready}
 use Rattle.kinds.specs.Sections.{Kinds}
 use Rattle.by_board.specs.Found.{numbered}
 use Rattle.by_board.proofs.Numbers.{numbered_out, numbered_stands}
 use Rattle.bits.specs.Sets.{word_bits}
 use Rattle.bits.proofs.Laws.{lowest_has}
+use Rattle.moves.specs.declared.Emptied.{Emptied}
 use Rattle.moves.specs.Watches.{through, feeds, feeds', apart}
 use Rattle.moves.specs.Moves.{Marks, marks, FirstMarked, PairTaken, Mutual, Moved, Tended, Lost, FedFor, MatchedFor, Owed}
 use Rattle.moves.specs.Visits.{Keeping}
 use Rattle.moves.proofs.Moving.{off_neither, moved_then, moved_as, tended_moved}
 use Rattle.moves.proofs.Reading.{through_honest, feeds_honest, feeds'_honest, apart_honest}
 use Rattle.sweeps.specs.Sweeps.{Evenly, ThroughEach, ThroughBoth, Noted}
-use Rattle.rounds.specs.Rounds.{rules_again, Settled, Again, Cleared, LinesSeen, Seen, Drained, drained}
+use Rattle.rounds.specs.Rounds.{rules_again, Settled, Again, Cleared, LinesSeen, Seen, Drained, drained, after_rounds}
 use Rattle.rounds.proofs.Owing.{owed_idle}
 use Rattle.rounds.proofs.Popping.{popped, popped_list, popped_fewer, OnBoards, owed_popped}
 
@@ -187,8 +188,8 @@ module _ {v : ℕ} (ks : List KindLine) {t u k : List ℕ} (f : Noted v t u k) w
     pub noted_moved_lost : Lost (Again v ks) v w → Lost (Again v ks) v t
     noted_moved_lost h x i c j = h x i c (g.keeps x c (f.keeps x (again_two v ks x c) j))
 
-    pub noted_drained : (y l : List ℕ) (some : Bool) → drained v ks w y l some → drained v ks t y l some
-    noted_drained y l true d =
+    pub noted_drained : (y l : List ℕ) (r : Result (Unit {0}) Emptied) → drained v ks w y l r → drained v ks t y l r
+    noted_drained y l (Ok _) d =
         record {
           fit = d.fit;
           inside = inside_trans d.inside (inside_trans g.inside f.inside);
@@ -197,7 +198,16 @@ module _ {v : ℕ} (ks : List KindLine) {t u k : List ℕ} (f : Noted v t u k) w
           cleared = d.cleared;
           idle = d.idle;
         }
-    noted_drained y l false d = noted_moved_lost d
+    noted_drained y l (Err _) d = noted_moved_lost d
+
+-- an empty cell, as a `?` hands that on
+pub drained_err : (v : ℕ) (ks : List KindLine) (t w n : List ℕ) (r : Result (Unit {0}) Emptied) → IsErr r → Lost (Again v ks) v t → drained v ks t w n r
+drained_err v ks t w n (Ok _) e lost = clash (cc)
+drained_err v ks t w n (Err _) e lost = lost
+
+pub rounds_err : (v : ℕ) (rs : List Rule) (t w : List ℕ) (r : Result ℕ Emptied) → IsErr r → Clash v rs t → after_rounds v rs t w r
+rounds_err v rs t w (Ok _) e none = clash (cc)
+rounds_err v rs t w (Err _) e none = none
 
 -- what a closing comes to, counted
 pub drained_settled : {v : ℕ} {ks : List KindLine} {t w n : List ℕ} {a b : ℕ} → Drained v ks t w n → a ≡ total t → b ≡ total w → Settled v (rules_again v ks) t w (a - b)

@@ -1,14 +1,15 @@
 -- What a closing by the list of pairs comes to. Assumes nothing.
-use Rattle.std.specs.Prelude.{◌≡◌, Bool, true, false, List, ◌++◌, ℕ, ◌<◌, slice_index}
+use Rattle.std.specs.Prelude.{◌≡◌, Result, Ok, Err, List, ◌++◌, ℕ, ◌<◌, slice_index}
 use Rattle.rules.specs.Descriptions.{KindLine}
 use Rattle.rules.specs.Tables.{Inside}
 use Rattle.rules.specs.Closing.{Rule, rules2, rules3, rules6, rules7}
 use Rattle.passes.specs.Passes.{Filled, Idles, Kept, Clash}
 use Rattle.kinds.specs.Sections.{WithKinds}
+use Rattle.by_board.specs.declared.KindLines.{KindLines}
+use Rattle.moves.specs.declared.Emptied.{Emptied}
+use Rattle.moves.specs.Visits.{Visited}
 use Rattle.moves.specs.Moves.{Marks, Mutual, Lost, FedFor, MatchedFor, Owed}
 use Rattle.sweeps.specs.Sweeps.{ThroughBoth}
-use Rattle.sweeps.specs.declared.Swept.{Swept}
-use Rattle.sweeps.specs.declared.Swept.TheVariants.{Struck, Emptied}
 
 -- rules 2, 6, 7 and 3, whose bounds depend on the table
 abbrev pub rules_again : ℕ → List KindLine → List Rule
@@ -21,9 +22,9 @@ pub record Settled (v : ℕ) (rs : List Rule) (t w : List ℕ) (n : ℕ) : Type 
   pub idle : Idles v rs w
 
 -- what a closing comes to: a settled table, or a clash
-abbrev pub after_rounds : ℕ → List Rule → List ℕ → List ℕ → Swept → Type 0
-after_rounds v rs t w (Struck n) = Settled v rs t w n
-after_rounds v rs t w Emptied = Clash v rs t
+abbrev pub after_rounds : ℕ → List Rule → List ℕ → List ℕ → Result ℕ Emptied → Type 0
+after_rounds v rs t w (Ok n) = Settled v rs t w n
+after_rounds v rs t w (Err _) = Clash v rs t
 
 -- nothing is on the list
 abbrev pub Cleared : ℕ → List ℕ → Type 0
@@ -32,6 +33,10 @@ Cleared v m = (p : ℕ) → p < v → slice_index m p ≡ 0
 -- rules 2, 6, 7 and 3 strike nothing in x
 abbrev pub Again : ℕ → List KindLine → List ℕ → Type 0
 Again v ks x = Idles v (rules_again v ks) x
+
+-- work at kind lines that tells whether it was left at an empty cell, and loses no table in which these rules strike nothing
+abbrev pub AgainOf : KindLines → (List KindLine → List ℕ → List ℕ → Type 0) → List ℕ → List ℕ → List ℕ → List ℕ → Result (Unit {0}) Emptied → Type 0
+AgainOf l P t m w n r = Visited (Again l.boards) l.boards l.count l.words.now P t m w n r
 
 -- each rule that reads the pair (p, q), from either side, is tended: of the kind lines, and with the boards
 pub record LinesSeen (v : ℕ) (ks : List KindLine) (p q : ℕ) (m t : List ℕ) : Type 0 where
@@ -57,6 +62,6 @@ pub record Drained (v : ℕ) (ks : List KindLine) (t w n : List ℕ) : Type 0 wh
   pub idle : Again v ks w
 
 -- what a closing by the list comes to: nothing is left to do, or an empty cell was met
-abbrev pub drained : ℕ → List KindLine → List ℕ → List ℕ → List ℕ → Bool → Type 0
-drained v ks t w n true = Drained v ks t w n
-drained v ks t w n false = Lost (Again v ks) v t
+abbrev pub drained : ℕ → List KindLine → List ℕ → List ℕ → List ℕ → Result (Unit {0}) Emptied → Type 0
+drained v ks t w n (Ok _) = Drained v ks t w n
+drained v ks t w n (Err _) = Lost (Again v ks) v t

@@ -8,121 +8,102 @@ ghost use Rattle.sweeps.specs.Sweeps.{Selves};
 ghost use Rattle.kinds.specs.Sections.{HasAgreed, WithKinds};
 ghost use Rattle.by_board.specs.Found.{Listed};
 ghost use Rattle.moves.specs.Moves.{Marks};
-ghost use Rattle.moves.specs.Visits.{Site, Visited};
+ghost use Rattle.moves.specs.Visits.{SiteOf};
 ghost use Rattle.same_panels.specs.Visits.{Parted};
-ghost use Rattle.compositions.specs.Composing.{Composes};
-ghost use Rattle.rounds.specs.Rounds.{Again, LinesSeen, Seen, Owing, drained, rules_again, after_rounds};
+ghost use Rattle.rounds.specs.Rounds.{AgainOf, LinesSeen, Seen, Owing, drained, rules_again, after_rounds};
 
 use bits::NumberSet;
-use by_board::Index;
-use compositions::SET_PAIRS;
+use by_board::{Index, KindLines};
+use moves::{Emptied, marks_room, take_pair};
 use panels::{rule6_for, rule6_without_ways};
+use relations::RelationSet;
 use same_panels::{rule7_at_first, rule7_for};
-use sweeps::Swept;
+use sweeps::{level_all, through};
+use tables::members;
 
 // Visits the kind lines that read the cell of p and q, from either side.
 fn revisit_lines(
-    v: usize,
-    count: usize,
-    words: &[u16],
-    found: &Index,
+    lines: &KindLines,
     p: usize,
     q: usize,
-    cells: &mut [u8],
+    cells: &mut [RelationSet],
     marks: &mut [NumberSet],
-) -> bool
-    requires { Site v count words.now found.now cells.old marks.old × (p < v) × (q < v) × Parted v count words.now marks.old cells.old }
-    ensures { Visited (Again v) v count words.now (λ ks. LinesSeen v ks p q) cells.old marks.old cells.new marks.new result }
+) -> Result<(), Emptied>
+    requires { SiteOf lines.now cells.old marks.old × (p < lines.now.boards) × (q < lines.now.boards) × Parted lines.now.boards lines.now.count lines.now.words.now marks.old cells.old }
+    ensures { AgainOf lines.now (λ ks. LinesSeen lines.now.boards ks p q) cells.old marks.old cells.new marks.new result }
 {
-    if !rule6_for(v, count, words, found, p, q, cells, marks) {
-        return false;
-    }
-    if !rule6_for(v, count, words, found, q, p, cells, marks) {
-        return false;
-    }
-    rule7_for(v, count, words, found, p, q, cells, marks)
+    rule6_for(lines, p, q, cells, marks)?;
+    rule6_for(lines, q, p, cells, marks)?;
+    rule7_for(lines, p, q, cells, marks)
 }
 
 // Visits what reads the cell of p and q, from either side.
 fn revisit(
-    v: usize,
-    count: usize,
-    words: &[u16],
-    found: &Index,
-    entries: &[u8; SET_PAIRS],
+    lines: &KindLines,
     p: usize,
     q: usize,
-    cells: &mut [u8],
+    cells: &mut [RelationSet],
     marks: &mut [NumberSet],
-) -> bool
-    requires { Site v count words.now found.now cells.old marks.old × Composes entries.now × (p < v) × (q < v) × Parted v count words.now marks.old cells.old }
-    ensures { Visited (Again v) v count words.now (λ ks. Seen v ks p q) cells.old marks.old cells.new marks.new result }
+) -> Result<(), Emptied>
+    requires { SiteOf lines.now cells.old marks.old × (p < lines.now.boards) × (q < lines.now.boards) × Parted lines.now.boards lines.now.count lines.now.words.now marks.old cells.old }
+    ensures { AgainOf lines.now (λ ks. Seen lines.now.boards ks p q) cells.old marks.old cells.new marks.new result }
 {
-    if !sweeps::through(v, entries, p, q, cells, marks) {
-        return false;
+    through(lines.boards, p, q, cells, marks)?;
+    if lines.count == 0 {
+        return Ok(());
     }
-    if count == 0 {
-        return true;
-    }
-    revisit_lines(v, count, words, found, p, q, cells, marks)
+    revisit_lines(lines, p, q, cells, marks)
 }
 
-// Takes one pair after the other off the list and visits what reads it, until nothing is on the list. Says whether no empty cell was met.
+// Takes one pair after the other off the list and visits what reads it, until nothing is on the list. Tells whether an empty cell was met.
 pub fn drain(
-    v: usize,
-    count: usize,
-    words: &[u16],
-    found: &Index,
-    cells: &mut [u8],
+    lines: &KindLines,
+    cells: &mut [RelationSet],
     marks: &mut [NumberSet],
-) -> bool
-    requires { Site v count words.now found.now cells.old marks.old × Owing v count words.now marks.old cells.old }
-    ensures { WithKinds v count words.now (λ ks. drained v ks cells.old cells.new marks.new result) }
+) -> Result<(), Emptied>
+    requires { SiteOf lines.now cells.old marks.old × Owing lines.now.boards lines.now.count lines.now.words.now marks.old cells.old }
+    ensures { WithKinds lines.now.boards lines.now.count lines.now.words.now (λ ks. drained lines.now.boards ks cells.old cells.new marks.new result) }
 {
-    let entries = compositions::composition_table();
-    while let Some((p, q)) = moves::take_pair(v, marks) {
-        if !revisit(v, count, words, found, &entries, p, q, cells, marks) {
-            return false;
-        }
+    while let Some((p, q)) = take_pair(lines.boards, marks) {
+        revisit(lines, p, q, cells, marks)?;
     }
-    true
+    Ok(())
 }
 
 // The first visits: rule 2 of every two boards, which makes the list, and the rules of kind lines that no pair on it would bring up. Then the list is drained.
 fn settle(
+    lines: &KindLines,
+    cells: &mut [RelationSet],
+    marks: &mut [NumberSet],
+) -> Result<(), Emptied>
+    requires { Ready lines.now.boards cells.old × Selves lines.now.boards cells.old × Marks lines.now.boards marks.old × Listed lines.now.boards lines.now.count lines.now.words.now lines.now.index.now }
+    ensures { WithKinds lines.now.boards lines.now.count lines.now.words.now (λ ks. drained lines.now.boards ks cells.old cells.new marks.new result) }
+{
+    level_all(lines.boards, cells, marks)?;
+    rule6_without_ways(lines, cells, marks)?;
+    rule7_at_first(lines, cells, marks)?;
+    drain(lines, cells, marks)
+}
+
+// Follows rules 2, 6, 7 and 3 until none strikes anything, and says how many relations they struck. `words` are the `count` kind lines.
+pub fn rounds(
     v: usize,
     count: usize,
     words: &[u16],
-    found: &Index,
-    cells: &mut [u8],
-    marks: &mut [NumberSet],
-) -> bool
-    requires { Ready v cells.old × Selves v cells.old × Marks v marks.old × Listed v count words.now found.now }
-    ensures { WithKinds v count words.now (λ ks. drained v ks cells.old cells.new marks.new result) }
-{
-    if !sweeps::level_all(v, cells, marks) {
-        return false;
-    }
-    if !rule6_without_ways(v, count, words, found, cells, marks) {
-        return false;
-    }
-    if !rule7_at_first(v, count, words, found, cells, marks) {
-        return false;
-    }
-    drain(v, count, words, found, cells, marks)
-}
-
-// Follows rules 2, 6, 7 and 3 until none strikes anything. `words` are the `count` kind lines.
-pub fn rounds(v: usize, count: usize, words: &[u16], cells: &mut [u8]) -> Swept
+    cells: &mut [RelationSet],
+) -> Result<u32, Emptied>
     requires { Ready v cells.old × HasAgreed v count words.now × (count ≤ most_kinds) × Selves v cells.old }
     ensures { WithKinds v count words.now (λ ks. after_rounds v (rules_again v ks) cells.old cells.new result) }
 {
-    let before = tables::members(cells);
-    let found = Index::new(count, words);
-    let mut marks = moves::marks_room();
-    if !settle(v, count, words, &found, cells, &mut marks) {
-        return Swept::Emptied;
-    }
-    let struck = before - tables::members(cells);
-    Swept::Struck(struck)
+    let before = members(cells);
+    let index = Index::new(count, words);
+    let lines = KindLines {
+        boards: v,
+        count,
+        words,
+        index: &index,
+    };
+    let mut marks = marks_room();
+    settle(&lines, cells, &mut marks)?;
+    Ok(before - members(cells))
 }

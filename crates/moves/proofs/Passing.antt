@@ -61,6 +61,10 @@ pub went_err : (C : List ℕ → Type 0) (v : ℕ) (P : List ℕ → List ℕ �
 went_err C v P t m w n (Ok _) e lost = clash (cc)
 went_err C v P t m w n (Err _) e lost = lost
 
+pub visited_err : (C : List KindLine → List ℕ → Type 0) (v count : ℕ) (ws : List ℕ) (P : List KindLine → List ℕ → List ℕ → Type 0) (t m w n : List ℕ) (r : Result (Unit {0}) Emptied)
+    → IsErr r → WithKinds v count ws (λ ks. Lost (C ks) v t) → Visited C v count ws P t m w n r
+visited_err C v count ws P t m w n r e lost ks fill = went_err (C ks) v (P ks) t m w n r e (lost ks fill)
+
 -- P stays as table and list move
 abbrev pub Steady : ℕ → (List ℕ → List ℕ → Type 0) → Type 1
 Steady v P = (C : List ℕ → Type 0) (t m w n : List ℕ) → Moved C v t m w n → P m t → P n w

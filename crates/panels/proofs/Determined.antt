@@ -12,11 +12,13 @@ use Rattle.panels.proofs.rule6_without_ways.Kinds as without_ways_kinds
 use Rattle.panels.proofs.rule6_without_ways.Reads as without_ways
 
 pub rule6_for_ended : OneEnd 4 for_kinds.ps for_kinds.r for.Asked for.Learnt
-    (λ κs a w. WithKinds a.0 a.1.0 a.1.1.0.now (λ ks. Keeping rules6 a.0 ks w)) (λ κs x. x) (λ κs e. e.1.1.1.1.1.1.0.now)
+    (λ κs a w. let l = a.0.now in WithKinds l.boards l.count l.words.now (λ ks. Keeping rules6 l.boards ks w)) (λ κs x. x) (λ κs e. e.1.1.1.0.now)
 rule6_for_ended κs a asked x y d e p q f g =
-    visits_ended (Keeping rules6 a.0) (λ ks. FedFor a.0 ks a.1.1.1.1.0 a.1.1.1.1.1.0) _ _ _ _ _ _ _ x y asked.0.listed.lines.0 p q f g
+    let v = a.0.now.boards in
+    visits_ended (Keeping rules6 v) (λ ks. FedFor v ks a.1.0 a.1.1.0) _ _ _ _ _ _ _ x y asked.0.listed.lines.0 p q f g
 
 pub rule6_without_ways_ended : OneEnd 4 without_ways_kinds.ps without_ways_kinds.r without_ways.Asked without_ways.Learnt
-    (λ κs a w. WithKinds a.0 a.1.0 a.1.1.0.now (λ ks. Keeping rules6 a.0 ks w)) (λ κs x. x) (λ κs e. e.1.1.1.1.0.now)
+    (λ κs a w. let l = a.0.now in WithKinds l.boards l.count l.words.now (λ ks. Keeping rules6 l.boards ks w)) (λ κs x. x) (λ κs e. e.1.0.now)
 rule6_without_ways_ended κs a asked x y d e p q f g =
-    visits_ended (Keeping rules6 a.0) (λ ks. FedWithout a.0 ks) _ _ _ _ _ _ _ x y asked.listed.lines.0 p q f g
+    let v = a.0.now.boards in
+    visits_ended (Keeping rules6 v) (λ ks. FedWithout v ks) _ _ _ _ _ _ _ x y asked.listed.lines.0 p q f g

@@ -1,11 +1,11 @@
 -- Rule 6 for a kind line and a board, by the ends of the search for ways that reach the board. Assumes nothing.
-use mathlib.Core.Path.{◌≡◌, refl, sym, ap, ◌∙◌, subst}
-use mathlib.Core.Bool.{Bool, true, false, not}
+use mathlib.Core.Path.{◌≡◌, refl, sym, subst}
+use mathlib.Core.Bool.{true, false, not}
+use Rattle.std.specs.Prelude.{Result, Ok, Err, Option, Some, None, is_some}
 use mathlib.Core.Logic.{◌⊎◌, inl, inr, ⊎_elim}
 use mathlib.Core.List.{List, ◌++◌}
 use Prim.Native.Nat.{ℕ, zero, suc, ◌+◌, ◌*◌, ◌≤◌, ◌<◌}
 use native.Mathlib.Omega.{arith}
-use borrow.Author.Count.{below_more}
 use lib.Dec.{T, eqb, eqb→eq, T_not}
 use lib.ListN.{length, get_or}
 use Rattle.rules.specs.Relations.{relations, same, above, E, A, has, Lacks, meet, join, complement, ◌lies_within◌, converse}
@@ -21,12 +21,13 @@ use Rattle.rules.proofs.Rules.{ways_all, relations_pos, same_small, misses_not, 
 use Rattle.passes.specs.Passes.{Idles}
 use Rattle.passes.proofs.Passes.{filled_one, ready_place}
 use Rattle.moves.specs.Watches.{feeds, feeds'}
+use Rattle.moves.specs.declared.Emptied.{Emptied}
 use Rattle.moves.specs.Moves.{Marks, Mutual, Struck, Moved, Tended, Went, Fed}
 use Rattle.moves.proofs.Striking.{cell_some}
 use Rattle.moves.proofs.Passing.{turned}
 use Rattle.moves.proofs.Moving.{moved_none, moved_inside, lost_inside, strike_moved, strike_lost, strike_within, tended_moved, tended_struck}
 use Rattle.moves.proofs.Reading.{feeds_honest, feeds'_honest}
-use Rattle.panels.specs.Ways.{FirstReaching}
+use Rattle.panels.specs.Ways.{Reaching, Reaches, FirstReaching}
 
 -- ---- whether a set has E or A, by what it has in common with them
 
@@ -56,41 +57,8 @@ reaches_meet x = T-ext (not (eqb (meet x 3) 0)) (reaches x) (λ t. to (some_memb
 -- ---- the search for a way that may be at or above the board z: one that reaches it
 
 -- no way from the place `from` on and before i reaches z
-pub record Passed (v : ℕ) (t ws : List ℕ) (z from i : ℕ) : Type 0 where
-  pub after : from ≤ i
-  pub within : i ≤ length ws
-  pub before : (j : ℕ) → j < i → from ≤ j → T (reaches (cell v t (get_or ws j 0) z)) → ⊥
-
-pub passed_none : {v : ℕ} {t ws : List ℕ} {z from : ℕ} → from ≤ length ws → Passed v t ws z from from
-passed_none h = record { after = omega arith; within = h; before = λ j l m r. let no : ⊥ = omega arith in absurd no }
-
-module _ {v : ℕ} {t ws : List ℕ} {z from i : ℕ} (p : Passed v t ws z from i) where
-  first : (i < length ws → T (reaches (cell v t (get_or ws i 0) z))) → FirstReaching v t ws z from i
-  first f = record { after = p.after; within = p.within; before = λ j m l. p.before j l m; found = f }
-
-  pub passed_all : length ws ≤ i → FirstReaching v t ws z from i
-  passed_all h = first (λ l. let no : ⊥ = omega arith in absurd no)
-
-  -- by what is said of the board y in place i
-  module _ {y : ℕ} {b : Bool} (e : y ≡ get_or ws i 0) (d : b ≡ reaches (cell v t y z)) where
-    said : b ≡ reaches (cell v t (get_or ws i 0) z)
-    said = d ∙ ap (λ (x : ℕ). reaches (cell v t x z)) e
-
-    pub passed_found : b ≡ true → FirstReaching v t ws z from i
-    passed_found q = first (λ l. true_T (sym said ∙ q))
-
-    pub passed_more : i < length ws → b ≡ false → Passed v t ws z from (i + 1)
-    passed_more h q =
-        let a : from ≤ i = p.after in
-        record {
-          after = omega arith;
-          within = omega arith;
-          before = below_more (λ j. from ≤ j → T (reaches (cell v t (get_or ws j 0) z)) → ⊥) i p.before (λ m r. subst T (sym said ∙ q) r);
-        }
-
--- not all ways were passed
-pub reaching_inner : {v : ℕ} {t ws : List ℕ} {z from i : ℕ} → FirstReaching v t ws z from i → (i ≡ length ws → ⊥) → i < length ws
-reaching_inner {ws = ws} {i = i} f n = let l : i ≤ length ws = f.within in omega arith
+abbrev pub Passed : ℕ → List ℕ → List ℕ → ℕ → ℕ → ℕ → Type 0
+Passed v t ws z from i = (j : ℕ) → from ≤ j → j < i → Reaching v t ws z j → ⊥
 
 -- ---- the ends of the search
 
@@ -137,12 +105,12 @@ module _ (v : ℕ) (line : KindLine) (z : ℕ) where
     -- both parts of rule 6 strike nothing in the table as it is
     still : (((i : ℕ) → i < length ws → Misses (cell v t (get_or ws i 0) z)) → Lacks (cell v t p z) above)
         → ((i : ℕ) → i < length ws → cell v t p z lies_within A → Alone t i → cell v t (get_or ws i 0) z lies_within join E A)
-        → Went Keep v (Fed v line z) t m t m true
+        → Went Keep v (Fed v line z) t m t m (Ok tt)
     still f g =
         (moved_none fit list, record { panel = λ o. said6 v t line z f; ways = λ i h o. said6' v t line z i (g i h) })
 
     -- the cell of the panel lacks A
-    pub rule6_at_lacks : meet (cell v t p z) A ≡ 0 → Went Keep v (Fed v line z) t m t m true
+    pub rule6_at_lacks : meet (cell v t p z) A ≡ 0 → Went Keep v (Fed v line z) t m t m (Ok tt)
     rule6_at_lacks e =
         still (λ n. lacks)
         (λ i h s a. absurd (T_not (has (cell v t p z) above) lacks (subst (λ (x : ℕ). T (has x above)) (sym (only_above s)) (has_single above))))
@@ -151,16 +119,16 @@ module _ (v : ℕ) (line : KindLine) (z : ℕ) where
         lacks = unshared_lacks above (cell v t p z) relations_pos e
 
     -- no way reaches z
-    module _ {i : ℕ} (f : FirstReaching v t ws z 0 i) (e : i ≡ length ws) where
+    module _ (f : FirstReaching v t ws z 0 None) where
       none : bound6 v t line z ≡ complement A
-      none = bound6_none v t line z (λ j h. not_misses (cell v t (get_or ws j 0) z) (f.before j (omega arith) (omega arith)))
+      none = bound6_none v t line z (λ j h. not_misses (cell v t (get_or ws j 0) z) (f j (omega arith) h))
 
       none_keeps : (x : List ℕ) → Inside x t × Keep x → (cell v x p z lies_within complement A) × (cell v x z p lies_within converse (cell v x p z))
       none_keeps x c =
           (lies_trans (keep_panel x c.1) (lies_trans (bound6_grows v c.0 line z) (lies_eq none)), keep_turned x c.1 p p-below z-below)
 
-      pub rule6_at_none : {w n : List ℕ} (some : Bool) → Struck v p z (complement A) t m w n some → Went Keep v (Fed v line z) t m w n some
-      rule6_at_none {w} {n} true s = (
+      pub rule6_at_none : {w n : List ℕ} (r : Result (Unit {0}) Emptied) → Struck v p z (complement A) t m w n r → Went Keep v (Fed v line z) t m w n r
+      rule6_at_none {w} {n} (Ok _) s = (
         moved,
         record {
           panel = tended_struck moved (feeds v line z) (feeds_honest v line z) (lies_trans left (lies_eq (sym none)));
@@ -179,36 +147,47 @@ module _ (v : ℕ) (line : KindLine) (z : ℕ) where
           besides a =
               let (r, h, b) = some_member (moved.fit.ready.table.small (v * p + z)) (cell_some moved.fit p-below z-below) in
               complement_out A r h (left.member r h b) (a.member r h ((moved.inside.each (v * p + z)).member r h b))
-      rule6_at_none false s = lost_inside (strike_lost fit list p-below z-below none_keeps s)
+      rule6_at_none (Err _) s = lost_inside (strike_lost fit list p-below z-below none_keeps s)
 
     -- way i is the first that reaches z
-    module _ {i : ℕ} (f : FirstReaching v t ws z 0 i) (h : i < length ws) where
+    module _ {i : ℕ} (f : Reaches v t ws z 0 i) where
+      h : i < length ws
+      h = f.within
+
       misses_way : Misses (cell v t (get_or ws i 0) z) → ⊥
-      misses_way m = misses_not (cell v t (get_or ws i 0) z) m (f.found h)
+      misses_way m = misses_not (cell v t (get_or ws i 0) z) m f.found
 
       -- and the cell of the panel has more than A
-      pub rule6_at_more : (cell v t p z ≡ A → ⊥) → Went Keep v (Fed v line z) t m t m true
+      pub rule6_at_more : (cell v t p z ≡ A → ⊥) → Went Keep v (Fed v line z) t m t m (Ok tt)
       rule6_at_more n = still (λ m. absurd (misses_way (m i h))) (λ k l s a. absurd (n (only_above s)))
 
-      -- and way j reaches it too
-      pub rule6_at_two : {j : ℕ} → FirstReaching v t ws z (i + 1) j → j < length ws → Went Keep v (Fed v line z) t m t m true
-      rule6_at_two {j} b l = still (λ m. absurd (misses_way (m i h))) (λ k o s a. absurd (both k a))
+      -- and another after it reaches it too
+      pub rule6_at_two : (o : Option ℕ) → FirstReaching v t ws z (i + 1) o → is_some o ≡ true → Went Keep v (Fed v line z) t m t m (Ok tt)
+      rule6_at_two None b s = absurd (true_T {b = false} s)
+      rule6_at_two (Some j) b s = still (λ m. absurd (misses_way (m i h))) (λ k o s a. absurd (both k a))
         where
           both : (k : ℕ) → Alone t k → ⊥
           both k a =
               let after : i + 1 ≤ j = b.after in
               ⊎_elim
-              (λ e. let d : k ≡ i = eqb→eq k i e in misses_not (cell v t (get_or ws j 0) z) (a j l (λ q. omega arith)) (b.found l))
+              (λ e. let d : k ≡ i = eqb→eq k i e in misses_not (cell v t (get_or ws j 0) z) (a j b.within (λ q. omega arith)) b.found)
               (λ n. misses_way (a i h (T-differ n))) (T-decide (eqb k i))
 
       -- and no other way does, and the cell of the panel is A
-      module _ {j : ℕ} (e : cell v t p z ≡ A) (b : FirstReaching v t ws z (i + 1) j) (l : length ws ≤ j) (y-below : get_or ws i 0 < v) where
+      module _ (e : cell v t p z ≡ A) (o : Option ℕ) (b : FirstReaching v t ws z (i + 1) o) (last : is_some o ≡ false) (y-below : get_or ws i 0 < v) where
+        after : (k : ℕ) → i + 1 ≤ k → k < length ws → Reaching v t ws z k → ⊥
+        after = go o b last
+          where
+            go : (o : Option ℕ) → FirstReaching v t ws z (i + 1) o → is_some o ≡ false → FirstReaching v t ws z (i + 1) None
+            go None b n = b
+            go (Some j) b n = absurd (true_T {b = false} (sym n))
+
         alone : Alone t i
-        alone k q g =
+        alone k k-below g =
             not_misses (cell v t (get_or ws k 0) z)
             (λ r.
             ⊎_elim (λ (c : k < i). f.before k (omega arith) c r)
-            (λ c. ⊎_elim (λ (c : i < k). b.before k (omega arith) (omega arith) r) (λ (c : k ≡ i). g (sym c)) c) (order_cases k i))
+            (λ c. ⊎_elim (λ (c : i < k). after k (omega arith) k-below r) (λ (c : k ≡ i). g (sym c)) c) (order_cases k i))
 
         only : bound6' v t line i z ≡ join E A
         only = bound6'_alone v t line z i (lies_eq e) alone
@@ -218,8 +197,8 @@ module _ (v : ℕ) (line : KindLine) (z : ℕ) where
         alone_keeps x c =
             (lies_trans (keep_way x c.1 i h) (lies_trans (bound6'_grows v c.0 line i z) (lies_eq only)), keep_turned x c.1 (get_or ws i 0) y-below z-below)
 
-        struck : {w n : List ℕ} (some : Bool) → Struck v (get_or ws i 0) z (join E A) t m w n some → Went Keep v (Fed v line z) t m w n some
-        struck {w} {n} true s = (
+        struck : {w n : List ℕ} (r : Result (Unit {0}) Emptied) → Struck v (get_or ws i 0) z (join E A) t m w n r → Went Keep v (Fed v line z) t m w n r
+        struck {w} {n} (Ok _) s = (
           moved,
           record {
             panel = tended_moved moved (feeds v line z) (feeds_honest v line z) (λ o. said6 v t line z (λ q. absurd (misses_way (q i h))));
@@ -242,8 +221,8 @@ module _ (v : ℕ) (line : KindLine) (z : ℕ) where
             other k c =
                 tended_moved moved (feeds' v line k z) (feeds'_honest v line k z)
                 (λ o. said6' v t line z k (λ q a. absurd (misses_way (a i h (T-differ c)))))
-        struck false s = lost_inside (strike_lost fit list y-below z-below alone_keeps s)
+        struck (Err _) s = lost_inside (strike_lost fit list y-below z-below alone_keeps s)
 
-        pub rule6_at_alone : {y : ℕ} {w n : List ℕ} (some : Bool) → y ≡ get_or ws i 0 → Struck v y z (join E A) t m w n some
-            → Went Keep v (Fed v line z) t m w n some
-        rule6_at_alone {w = w} {n = n} some d s = struck some (subst (λ (y : ℕ). Struck v y z (join E A) t m w n some) d s)
+        pub rule6_at_alone : {y : ℕ} {w n : List ℕ} (r : Result (Unit {0}) Emptied) → y ≡ get_or ws i 0 → Struck v y z (join E A) t m w n r
+            → Went Keep v (Fed v line z) t m w n r
+        rule6_at_alone {w = w} {n = n} r d s = struck r (subst (λ (y : ℕ). Struck v y z (join E A) t m w n r) d s)

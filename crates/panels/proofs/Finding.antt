@@ -1,10 +1,12 @@
 -- Rule 6 of the kind lines that read the cell of two boards: which of them need no visit, and that the others are found by board. Assumes nothing.
 use mathlib.Core.Path.{◌≡◌, sym, subst}
-use mathlib.Core.Bool.{Bool, true}
+use Rattle.std.specs.Prelude.{Result, Ok}
 use mathlib.Core.Logic.{⊎_elim}
+use mathlib.Core.Bool.{false}
 use mathlib.Core.List.{List, Memᴰ}
 use Prim.Native.Nat.{ℕ, ◌+◌, ◌*◌, ◌<◌}
-use lib.Dec.{T}
+use lib.Dec.{T, eqb}
+use Rattle.std.proofs.lemmas.Bool.{eqb-false}
 use Rattle.rules.specs.Relations.{same, above, A, has, ◌lies_within◌}
 use Rattle.rules.specs.Descriptions.{KindLine}
 use Rattle.rules.specs.Tables.{cell}
@@ -18,7 +20,8 @@ use Rattle.kinds.specs.Sections.{Kinds}
 use Rattle.by_board.specs.Found.{with_panel}
 use Rattle.by_board.proofs.Asking.{panel_found, way_found}
 use Rattle.moves.specs.Watches.{feeds, feeds'}
-use Rattle.moves.specs.Moves.{Mutual, Moved, Tended, Fed, FedFor, Went}
+use Rattle.moves.specs.declared.Emptied.{Emptied}
+use Rattle.moves.specs.Moves.{Mutual, Moved, Tended, Went, Fed, FedFor}
 use Rattle.moves.specs.Visits.{Site, Keeping, Visited}
 use Rattle.moves.proofs.Moving.{moved_none, tended_moved}
 use Rattle.moves.proofs.Reading.{feeds_honest, feeds'_honest}
@@ -76,27 +79,22 @@ module _ {v count : ℕ} {ws xs t m : List ℕ} (site : Site v count ws xs t m) 
           let (j, o, q) = panel_found site.listed ks fill k l (board_few site.table ha) d in
           (subst (λ (k : KindLine). Fed v k b n w) q (f j o)).ways i h
 
-  -- as each of the kind lines that fill the words is visited
-  pub went_panel : (ks : List KindLine) → Kinds v count ws ks → cell v t a b ≡ 2 → (lines : ℕ) → lines ≡ with_panel xs a → (w n : List ℕ) (some : Bool)
-      → Went (Keeping rules6 v ks) v (FedEach v ws lines b) t m w n some → Went (Keeping rules6 v ks) v (FedFor v ks a b) t m w n some
-  went_panel ks fill e lines d w n some g =
-      went_so (Keeping rules6 v ks) v (FedEach v ws lines b) (FedFor v ks a b) t m w n some
+  pub went_panel : (ks : List KindLine) → Kinds v count ws ks → cell v t a b ≡ 2 → (lines : ℕ) → lines ≡ with_panel xs a → (w n : List ℕ) (r : Result (Unit {0}) Emptied)
+      → Went (Keeping rules6 v ks) v (FedEach v ws lines b) t m w n r → Went (Keeping rules6 v ks) v (FedFor v ks a b) t m w n r
+  went_panel ks fill e lines d w n r g =
+      went_so (Keeping rules6 v ks) v (FedEach v ws lines b) (FedFor v ks a b) t m w n r
       (λ moved f. for_panel ks fill e moved (subst (λ (x : ℕ). FedEach v ws x b n w) d f)) g
 
-  pub visit_panel : {lines : ℕ} → lines ≡ with_panel xs a → cell v t a b ≡ A → (w n : List ℕ) (some : Bool)
-      → Visited (Keeping rules6 v) v count ws (λ ks. FedEach v ws lines b) t m w n some → Visited (Keeping rules6 v) v count ws (λ ks. FedFor v ks a b) t m w n some
-  visit_panel {lines} d e w n some g ks fill = went_panel ks fill e lines d w n some (g ks fill)
-
   -- none, where a may be at or above b and something else
-  for_none : (ks : List KindLine) → T (reaches (cell v t a b)) → (cell v t a b ≡ A → ⊥) → FedFor v ks a b m t
-  for_none ks reach e =
-      record {
-        panel = λ k l r. reach_panel v t m reach k r.0 r.1 r.2.0;
-        ways = λ k l i h. ⊎_elim (λ r. more_way v t m site.table ha hb e k i r.0) (λ r. reach_way v t m reach k i r.0 r.1 r.2.0 r.2.1.0);
-      }
-
-  pub visit_none : T (reaches (cell v t a b)) → (cell v t a b ≡ A → ⊥) → Visited (Keeping rules6 v) v count ws (λ ks. FedFor v ks a b) t m t m true
-  visit_none reach e ks fill = (moved_none site.table site.list, for_none ks reach e)
+  pub visit_none : T (reaches (cell v t a b)) → eqb (cell v t a b) 2 ≡ false → Visited (Keeping rules6 v) v count ws (λ ks. FedFor v ks a b) t m t m (Ok tt)
+  visit_none reach e ks fill = (
+    moved_none site.table site.list,
+    record {
+      panel = λ k l r. reach_panel v t m reach k r.0 r.1 r.2.0;
+      ways = λ k l i h.
+          ⊎_elim (λ r. more_way v t m site.table ha hb (eqb-false _ _ e) k i r.0) (λ r. reach_way v t m reach k i r.0 r.1 r.2.0 r.2.1.0);
+    },
+  )
 
   -- those with the way a, where it is neither at nor above b
   for_ways : (ks : List KindLine) → Kinds v count ws ks → (cell v t a b ≡ A → ⊥) → {C : List ℕ → Type 0} {w n : List ℕ} → Moved C v t m w n
@@ -114,7 +112,7 @@ module _ {v count : ℕ} {ws xs t m : List ℕ} (site : Site v count ws xs t m) 
           let (s, j, o, q) = way_found site.listed ks fill k l (board_few site.table ha) i h d in
           subst (λ (k : KindLine). Fed v k b n w) q (f i s j o)
 
-  pub visit_ways : (cell v t a b ≡ A → ⊥) → (w n : List ℕ) (some : Bool) → Visited (Keeping rules6 v) v count ws (λ ks. FedWays v ws xs a b) t m w n some
-      → Visited (Keeping rules6 v) v count ws (λ ks. FedFor v ks a b) t m w n some
-  visit_ways e w n some g ks fill =
-      went_so (Keeping rules6 v ks) v (FedWays v ws xs a b) (FedFor v ks a b) t m w n some (λ moved f. for_ways ks fill e moved f) (g ks fill)
+  pub went_ways : (ks : List KindLine) → Kinds v count ws ks → eqb (cell v t a b) 2 ≡ false → (w n : List ℕ) (r : Result (Unit {0}) Emptied)
+      → Went (Keeping rules6 v ks) v (FedWays v ws xs a b) t m w n r → Went (Keeping rules6 v ks) v (FedFor v ks a b) t m w n r
+  went_ways ks fill e w n r g =
+      went_so (Keeping rules6 v ks) v (FedWays v ws xs a b) (FedFor v ks a b) t m w n r (λ moved f. for_ways ks fill (eqb-false _ _ e) moved f) g

@@ -1,6 +1,6 @@
 -- Rule 6 of the kind lines by their numbers: what is seen to stays so, and what is kept for all of them is kept for one. Assumes nothing.
 use mathlib.Core.Path.{◌≡◌, sym, subst}
-use mathlib.Core.Bool.{Bool}
+use Rattle.std.specs.Prelude.{Ok}
 use mathlib.Core.List.{List, ◌++◌, Memᴰ}
 use Prim.Native.Nat.{ℕ, ◌-◌, ◌<◌}
 use native.Mathlib.Omega.{arith}
@@ -13,14 +13,14 @@ use Rattle.rules.proofs.Rules.{boards_all}
 use Rattle.passes.specs.Passes.{Idles}
 use Rattle.kinds.specs.declared.KindLine as kinds
 use Rattle.kinds.specs.Lines.{kind_at, line_at, StandsIn}
-use Rattle.kinds.specs.Sections.{Kinds}
+use Rattle.kinds.specs.Sections.{Kinds, WithKinds}
 use Rattle.by_board.specs.Found.{start_of, numbered}
 use Rattle.by_board.proofs.Numbers.{numbered_in, numbered_out}
 use Rattle.by_board.proofs.Asking.{located_line}
 use Rattle.moves.specs.Watches.{feeds, feeds'}
-use Rattle.moves.specs.Moves.{Moved, Went, Fed}
+use Rattle.moves.specs.Moves.{Moved, Lost, Went, Fed}
 use Rattle.moves.specs.Visits.{Keeping, Visited}
-use Rattle.moves.proofs.Moving.{tended_moved}
+use Rattle.moves.proofs.Moving.{tended_moved, lost_as}
 use Rattle.moves.proofs.Reading.{feeds_honest, feeds'_honest}
 use Rattle.moves.proofs.Passing.{went_as, Steady}
 use Rattle.panels.specs.Visits.{FedEach, FedBare, FedWithout}
@@ -54,14 +54,20 @@ kept_line {v} {ks} {k} {z} m h x c =
     (boards_all (Idle v x) v (rule6 v k)
     (over_all (Idle v x) (λ l. boards_of v (rule6 v l)) ks (append_right (Idle v x) (rules2 v) (rules6 v ks) c) k m) z h)
 
--- a visit to a line as code has found it by its number
+-- a visit to a line as code has found it by its number, that was not left at an empty cell, or was
 pub line_visited : (v count : ℕ) (ws : List ℕ) {n : ℕ} → n < count → {line : kinds.KindLine} → line ≡ kind_at ws (start_of ws n) → {z : ℕ} → z < v
-    → (t m w k : List ℕ) (some : Bool) → Went (Idles v (rules2 v ++ rule6 v (line_at ws line) z)) v (Fed v (line_at ws line) z) t m w k some
-    → Visited (Keeping rules6 v) v count ws (λ ks. Fed v (numbered ws n) z) t m w k some
-line_visited v count ws {n} below e {z} hz t m w k some g ks fill =
-    went_as (Idles v (rules2 v ++ rule6 v (numbered ws n) z)) (Keeping rules6 v ks) v (Fed v (numbered ws n) z) t m w k some
+    → {t m w k : List ℕ} → Went (Idles v (rules2 v ++ rule6 v (line_at ws line) z)) v (Fed v (line_at ws line) z) t m w k (Ok tt)
+    → Visited (Keeping rules6 v) v count ws (λ ks. Fed v (numbered ws n) z) t m w k (Ok tt)
+line_visited v count ws {n} below e {z} hz {t} {m} {w} {k} g ks fill =
+    went_as (Idles v (rules2 v ++ rule6 v (numbered ws n) z)) (Keeping rules6 v ks) v (Fed v (numbered ws n) z) t m w k (Ok tt)
     (kept_line (numbered_in v count ws ks fill n below) hz)
-    (subst (λ (l : KindLine). Went (Idles v (rules2 v ++ rule6 v l z)) v (Fed v l z) t m w k some) (sym (located_line ws n e)) g)
+    (subst (λ (l : KindLine). Went (Idles v (rules2 v ++ rule6 v l z)) v (Fed v l z) t m w k (Ok tt)) (sym (located_line ws n e)) g)
+
+pub line_lost : (v count : ℕ) (ws : List ℕ) {n : ℕ} → n < count → {line : kinds.KindLine} → line ≡ kind_at ws (start_of ws n) → {z : ℕ} → z < v
+    → {t : List ℕ} → Lost (Idles v (rules2 v ++ rule6 v (line_at ws line) z)) v t → WithKinds v count ws (λ ks. Lost (Keeping rules6 v ks) v t)
+line_lost v count ws {n} below e {z} hz {t} lost ks fill =
+    lost_as (kept_line (numbered_in v count ws ks fill n below) hz)
+    (subst (λ (l : KindLine). Lost (Idles v (rules2 v ++ rule6 v l z)) v t) (sym (located_line ws n e)) lost)
 
 -- ---- the kind lines without ways
 

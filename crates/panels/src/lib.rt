@@ -2,192 +2,160 @@
 #![tactic(auto)]
 
 ghost use Rattle.std.specs.Prelude.{◌≡◌, ◌++◌, ◌≤◌, ◌<◌, length};
-ghost use Rattle.rules.specs.Relations.{set_limit};
 ghost use Rattle.rules.specs.Closing.{reaches, rules2, rule6, rules6};
 ghost use Rattle.passes.specs.Passes.{Ready, Idles};
 ghost use Rattle.kinds.specs.Lines.{line_at, Below, StandsIn};
 ghost use Rattle.by_board.specs.Found.{numbered, Numbers};
 ghost use Rattle.moves.specs.Moves.{Marks, Mutual, Went, Fed, FedFor};
-ghost use Rattle.moves.specs.Visits.{Site, Keeping, Visited};
+ghost use Rattle.moves.specs.Visits.{SiteOf, VisitedOf};
 ghost use Rattle.panels.specs.Ways.{FirstReaching};
 ghost use Rattle.panels.specs.Visits.{FedEach, FedWays, FedBare, FedWithout};
 
 use bits::NumberSet;
-use by_board::Index;
+use by_board::KindLines;
 use kinds::{KindLine, way};
+use moves::{Emptied, strike};
+use relations::RelationSet;
+use tables::cell;
 
 // Tells whether a set has E or A.
-fn reaches(x: u8) -> bool
-    requires { x < set_limit }
+#[tactic(auto, using(crate::proofs::Feeding::reaches_meet))]
+fn reaches(x: RelationSet) -> bool
     ensures { result ≡ reaches x }
 {
-    relations::meet(x, relations::AT_OR_ABOVE) != 0
+    !(x & RelationSet::AT_OR_ABOVE).is_empty()
 }
 
-// Finds the first place, from `from` on, whose way may be at or above the board z; the number of ways if there is none.
-fn reaching(v: usize, ways: &[u16], z: usize, from: usize, cells: &[u8]) -> usize
+// Finds the first place, from `from` on, whose way may be at or above the board z.
+fn reaching(v: usize, ways: &[u16], z: usize, from: usize, cells: &[RelationSet]) -> Option<usize>
     requires { Ready v cells.now × Below v ways.now × (z < v) × (from ≤ length ways.now) }
     ensures { FirstReaching v cells.now ways.now z from result }
 {
-    let mut i = from;
-    while i < ways.len() {
-        let k = v * way(ways, i) + z;
-        if reaches(cells[k]) {
-            return i;
+    for i in from..ways.len() {
+        if reaches(cell(v, way(ways, i), z, cells)) {
+            return Some(i);
         }
-        i += 1;
     }
-    i
+    None
 }
 
-// Rule 6 of one kind line, for one board z: if z is below the panel, it is at or below one of the ways. It sees to the rule, or says
-// false: a cell would be left empty.
+// Rule 6 of one kind line, for one board z: if z is below the panel, it is at or below one of the ways. It sees to the rule, or was left
+// at an empty cell.
 fn rule6_at(
     v: usize,
     words: &[u16],
     line: KindLine,
     z: usize,
-    cells: &mut [u8],
+    cells: &mut [RelationSet],
     marks: &mut [NumberSet],
-) -> bool
+) -> Result<(), Emptied>
     requires { Mutual v cells.old × Marks v marks.old × StandsIn v words.now line × (z < v) }
     ensures { Went (Idles v (rules2 v ++ rule6 v (line_at words.now line) z)) v (Fed v (line_at words.now line) z) cells.old marks.old cells.new marks.new result }
 {
-    let k = v * line.p + z;
-    let x = cells[k];
-    if relations::meet(x, relations::A) == 0 {
-        return true;
+    let x = cell(v, line.p, z, cells);
+    if (x & RelationSet::A).is_empty() {
+        return Ok(());
     }
-    let first = line.first;
-    let end = line.end;
-    let ways = &words[first..end];
-    let i = reaching(v, ways, z, 0, cells);
-    if i == ways.len() {
-        return moves::strike(v, line.p, z, relations::NOT_ABOVE, cells, marks);
+    let ways = &words[line.first..line.end];
+    let Some(i) = reaching(v, ways, z, 0, cells) else {
+        return strike(v, line.p, z, RelationSet::NOT_ABOVE, cells, marks);
+    };
+    if x != RelationSet::A || reaching(v, ways, z, i + 1, cells).is_some() {
+        return Ok(());
     }
-    if x != relations::A || reaching(v, ways, z, i + 1, cells) < ways.len() {
-        return true;
-    }
-    moves::strike(v, way(ways, i), z, relations::AT_OR_ABOVE, cells, marks)
+    strike(v, way(ways, i), z, RelationSet::AT_OR_ABOVE, cells, marks)
 }
 
-// Rule 6 of each kind line in a set of numbers, towards the board z. It sees to each, or says false.
+// Rule 6 of each kind line in a set of numbers, towards the board z. It sees to each, or was left at an empty cell.
 fn rule6_each(
-    v: usize,
-    count: usize,
-    words: &[u16],
-    found: &Index,
-    lines: NumberSet,
+    lines: &KindLines,
+    numbers: NumberSet,
     z: usize,
-    cells: &mut [u8],
+    cells: &mut [RelationSet],
     marks: &mut [NumberSet],
-) -> bool
-    requires { Site v count words.now found.now cells.old marks.old × Numbers count lines × (z < v) }
-    ensures { Visited (Keeping rules6 v) v count words.now (λ ks. FedEach v words.now lines z) cells.old marks.old cells.new marks.new result }
+) -> Result<(), Emptied>
+    requires { SiteOf lines.now cells.old marks.old × Numbers lines.now.count numbers × (z < lines.now.boards) }
+    ensures { VisitedOf rules6 lines.now (λ ks. FedEach lines.now.boards lines.now.words.now numbers z) cells.old marks.old cells.new marks.new result }
 {
-    let mut left = lines;
+    let mut left = numbers;
     while let Some(n) = left.pop() {
-        let line = found.line_of(words, n);
-        if !rule6_at(v, words, line, z, cells, marks) {
-            return false;
-        }
+        rule6_at(lines.boards, lines.words, lines.line(n), z, cells, marks)?;
     }
-    true
+    Ok(())
 }
 
-// Rule 6 of the kind lines that have the board a as a way, towards the board b. It sees to each, or says false.
+// Rule 6 of the kind lines that have the board a as a way, towards the board b. It sees to each, or was left at an empty cell.
 fn rule6_of_ways(
-    v: usize,
-    count: usize,
-    words: &[u16],
-    found: &Index,
+    lines: &KindLines,
     a: usize,
     b: usize,
-    cells: &mut [u8],
+    cells: &mut [RelationSet],
     marks: &mut [NumberSet],
-) -> bool
-    requires { Site v count words.now found.now cells.old marks.old × (a < v) × (b < v) }
-    ensures { Visited (Keeping rules6 v) v count words.now (λ ks. FedWays v words.now found.now a b) cells.old marks.old cells.new marks.new result }
+) -> Result<(), Emptied>
+    requires { SiteOf lines.now cells.old marks.old × (a < lines.now.boards) × (b < lines.now.boards) }
+    ensures { VisitedOf rules6 lines.now (λ ks. FedWays lines.now.boards lines.now.words.now lines.now.index.now a b) cells.old marks.old cells.new marks.new result }
 {
-    let mut left = found.places(a);
+    let mut left = lines.index.places(a);
     while let Some(i) = left.pop() {
-        let lines = found.with_way(a, i);
-        if !rule6_each(v, count, words, found, lines, b, cells, marks) {
-            return false;
-        }
+        rule6_each(lines, lines.index.with_way(a, i), b, cells, marks)?;
     }
-    true
+    Ok(())
 }
 
 // Rule 6 of the kind lines that read the cell of a and b: those with a as a way, if it no longer may be at or above b, and those with the panel a, if it
-// must be above b. It sees to each, or says false.
-#[tactic(auto, using(crate::proofs::Finding::went_panel, crate::proofs::Finding::visit_none, rules::proofs::Tests::true_T))]
+// must be above b. It sees to each, or was left at an empty cell.
+#[tactic(auto, using(crate::proofs::Finding::went_panel, crate::proofs::Finding::visit_none, crate::proofs::Finding::went_ways, rules::proofs::Tests::true_T))]
 pub fn rule6_for(
-    v: usize,
-    count: usize,
-    words: &[u16],
-    found: &Index,
+    lines: &KindLines,
     a: usize,
     b: usize,
-    cells: &mut [u8],
+    cells: &mut [RelationSet],
     marks: &mut [NumberSet],
-) -> bool
-    requires { Site v count words.now found.now cells.old marks.old × (a < v) × (b < v) }
-    ensures { Visited (Keeping rules6 v) v count words.now (λ ks. FedFor v ks a b) cells.old marks.old cells.new marks.new result }
+) -> Result<(), Emptied>
+    requires { SiteOf lines.now cells.old marks.old × (a < lines.now.boards) × (b < lines.now.boards) }
+    ensures { VisitedOf rules6 lines.now (λ ks. FedFor lines.now.boards ks a b) cells.old marks.old cells.new marks.new result }
 {
-    let k = v * a + b;
-    let x = cells[k];
-    if x == relations::A {
-        let lines = found.with_panel(a);
-        return rule6_each(v, count, words, found, lines, b, cells, marks);
+    let x = cell(lines.boards, a, b, cells);
+    if x == RelationSet::A {
+        return rule6_each(lines, lines.index.with_panel(a), b, cells, marks);
     }
     if reaches(x) {
-        return true;
+        return Ok(());
     }
-    rule6_of_ways(v, count, words, found, a, b, cells, marks)
+    rule6_of_ways(lines, a, b, cells, marks)
 }
 
-// Rule 6 of kind line n for every board, if the line has no ways: nothing lies below it. It sees to the rule, or says false.
+// Rule 6 of kind line n for every board, if the line has no ways: nothing lies below it. It sees to the rule, or was left at an empty cell.
 fn rule6_bare(
-    v: usize,
-    count: usize,
-    words: &[u16],
-    found: &Index,
+    lines: &KindLines,
     n: usize,
-    cells: &mut [u8],
+    cells: &mut [RelationSet],
     marks: &mut [NumberSet],
-) -> bool
-    requires { Site v count words.now found.now cells.old marks.old × (n < count) }
-    ensures { Visited (Keeping rules6 v) v count words.now (λ ks. FedBare v (numbered words.now n)) cells.old marks.old cells.new marks.new result }
+) -> Result<(), Emptied>
+    requires { SiteOf lines.now cells.old marks.old × (n < lines.now.count) }
+    ensures { VisitedOf rules6 lines.now (λ ks. FedBare lines.now.boards (numbered lines.now.words.now n)) cells.old marks.old cells.new marks.new result }
 {
-    let line = found.line_of(words, n);
+    let line = lines.line(n);
     if line.first < line.end {
-        return true;
+        return Ok(());
     }
-    for z in 0..v {
-        if !rule6_at(v, words, line, z, cells, marks) {
-            return false;
-        }
+    for z in 0..lines.boards {
+        rule6_at(lines.boards, lines.words, line, z, cells, marks)?;
     }
-    true
+    Ok(())
 }
 
-// Rule 6 of the kind lines that have no ways, for every board: nothing lies below them. It sees to each, or says false.
+// Rule 6 of the kind lines that have no ways, for every board: nothing lies below them. It sees to each, or was left at an empty cell.
 pub fn rule6_without_ways(
-    v: usize,
-    count: usize,
-    words: &[u16],
-    found: &Index,
-    cells: &mut [u8],
+    lines: &KindLines,
+    cells: &mut [RelationSet],
     marks: &mut [NumberSet],
-) -> bool
-    requires { Site v count words.now found.now cells.old marks.old }
-    ensures { Visited (Keeping rules6 v) v count words.now (FedWithout v) cells.old marks.old cells.new marks.new result }
+) -> Result<(), Emptied>
+    requires { SiteOf lines.now cells.old marks.old }
+    ensures { VisitedOf rules6 lines.now (FedWithout lines.now.boards) cells.old marks.old cells.new marks.new result }
 {
-    for n in 0..count {
-        if !rule6_bare(v, count, words, found, n, cells, marks) {
-            return false;
-        }
+    for n in 0..lines.count {
+        rule6_bare(lines, n, cells, marks)?;
     }
-    true
+    Ok(())
 }

@@ -1,85 +1,35 @@
 -- `rule6_at` meets its contract: each of its ends is one of the laws of feeding. Assumes nothing.
-use mathlib.Core.Path.{sym, ◌∙◌}
-use Prim.Native.Nat.{◌<◌}
-use native.Mathlib.Omega.{arith}
-use borrow.Author.Tests.{ltb-true, ltb-false}
-use Rattle.rules.specs.Relations.{relations, has, set_to, set_of, join, complement}
-use Rattle.rules.proofs.Sets.{single_small}
-use Rattle.rules.proofs.Rules.{relations_pos}
-use Rattle.passes.proofs.Passes.{place_few, ready_place}
-use Rattle.panels.proofs.Feeding.{rule6_at_lacks, rule6_at_none, rule6_at_more, rule6_at_two, rule6_at_alone, reaching_inner}
-use Rattle.panels.proofs.rule6_at.Tie as tie
-use Rattle.panels.proofs.rule6_at.Lts as lts
-use Rattle.panels.proofs.rule6_at.Reads as reads
+use mathlib.Core.Path.{sym, ap, ◌∙◌}
+use Prim.Native.Nat.{ℕ}
+use Rattle.std.proofs.lemmas.Bool.{not-false, eqb-true}
+use Rattle.rules.specs.Relations.{relations, A, has, set_to, set_of, meet, join, complement}
+use Rattle.rules.proofs.Tests.{true_T, T-differ}
+use Rattle.panels.proofs.Feeding.{rule6_at_lacks, rule6_at_none, rule6_at_more, rule6_at_two, rule6_at_alone}
 use Rattle.panels.proofs.rule6_at.Goals as goal
-use Rattle.panels.proofs.rule6_at.Goals.{then-x-ne-A-via-else-x-ne-A+then-reaching-ways, then-x-ne-A-via-then-x-ne-A}
+use Rattle.panels.proofs.rule6_at.Goals.{then-ne-via-then-ne, then-ne-via-else-ne+then-is_some}
 
-pub overflow_mul-k : goal.overflow_mul-k
-overflow_mul-k c = let pre = c.requires in record { fits = omega (arith, place_few pre.0.ready.boards pre.2.board pre.3) }
-
-pub overflow_add-k : goal.overflow_add-k
-overflow_add-k c = let pre = c.requires in record { fits = omega (arith, place_few pre.0.ready.boards pre.2.board pre.3) }
-
-pub bounds-cells-k : goal.bounds-cells-k
-bounds-cells-k c = let pre = c.requires in ready_place pre.0.ready pre.2.board pre.3
-
-pub meet-requires : goal.meet-requires
-meet-requires c = (c.requires.0.ready.table.small _, single_small relations_pos)
-
-pub returns-then-meet-eq0 : goal.returns-then-meet-eq0
-returns-then-meet-eq0 c =
+pub returns-then-is_empty : goal.returns-then-is_empty
+returns-then-is_empty c =
     let pre = c.requires in
-    rule6_at_lacks _ _ _ pre.0 pre.1 pre.2.board pre.3 (sym c.meet.ensures ∙ c.if-meet-eq0.true)
+    rule6_at_lacks _ _ _ pre.0 pre.1 pre.2.board pre.3
+    (sym (c.bitand.ensures ∙ ap (λ (x : ℕ). meet x A) c.cell-x.ensures) ∙ eqb-true _ _ (sym c.is_empty.ensures ∙ c.if-is_empty.true))
 
-pub strike-requires : goal.strike-requires
-unfolding relations
-strike-requires c =
-    let pre = c.requires in
-    (pre.0, pre.1, omega (arith, pre.2.board, pre.3), omega (arith, pre.2.board, pre.3), omega arith)
-
-pub returns-then-i-ways : goal.returns-then-i-ways
+pub returns-in_default : goal.returns-in_default
 unfolding relations has set_to set_of complement
-returns-then-i-ways c =
+returns-in_default c =
     let pre = c.requires in
-    rule6_at_none _ _ _ pre.0 pre.1 pre.2.board pre.3 c.reaching-i.ensures
-    c.if-i-ways.true _ c.strike.ensures
+    rule6_at_none _ _ _ pre.0 pre.1 pre.2.board pre.3 c.in_default.ensures c.strike.result c.strike.ensures
 
-pub reaching-requires : goal.reaching-requires
-reaching-requires c =
+pub returns-then-ne : goal.returns-then-ne
+returns-then-ne c =
     let pre = c.requires in
-    (pre.0.ready, pre.2.boards, pre.3, omega (arith, reaching_inner c.reaching-i.ensures c.if-i-ways.false))
-
-pub returns-then-x-ne-A : goal.returns-then-x-ne-A
-returns-then-x-ne-A c =
-    let pre = c.requires in
-    let first = c.reaching-i.ensures in
-    let found = reaching_inner first c.if-i-ways.false in
-    (elim c.then-x-ne-A.branch [ then-x-ne-A-via-then-x-ne-A w ↦ rule6_at_more _ _ _ pre.0 pre.1 pre.2.board pre.3 first found w.if-x-ne-A.true | then-x-ne-A-via-else-x-ne-A+then-reaching-ways w ↦ rule6_at_two _ _ _ pre.0 pre.1 pre.2.board pre.3 first found w.reaching.ensures (ltb-true _ _ w.if-reaching-ways.true-raw) ])
-
--- the way is a board
-board : (c : lts.After-way tie.the-claims reads.Pre reads.Post)
-    → c.way.result < c.args.v
-board c =
-    let inner = reaching_inner c.reaching-i.ensures c.if-i-ways.false in
-    omega (
-      arith,
-      c.way.ensures,
-      c.requires.2.boards
-          c.reaching-i.result inner,
-    )
-
-pub strike-requires-2 : goal.strike-requires-2
-unfolding relations
-strike-requires-2 c =
-    let pre = c.requires in
-    (pre.0, pre.1, board c.before.before.before, pre.3, omega arith)
+    (elim c.then-ne.branch [ then-ne-via-then-ne w ↦ rule6_at_more _ _ _ pre.0 pre.1 pre.2.board pre.3 c.in-Some.ensures (λ e. T-differ (true_T (sym c.ne.ensures ∙ w.if-ne.true)) (c.cell-x.ensures ∙ e)) | then-ne-via-else-ne+then-is_some w ↦ rule6_at_two _ _ _ pre.0 pre.1 pre.2.board pre.3 c.in-Some.ensures w.reaching-else-ne.result w.reaching-else-ne.ensures (sym w.is_some.ensures ∙ w.if-is_some.true) ])
 
 pub returns : goal.returns
 unfolding relations has set_to set_of join
 returns c =
     let pre = c.requires in
-    let first = c.reaching-i.ensures in
-    let inner = reaching_inner first c.if-i-ways.false in
-    rule6_at_alone _ _ _ pre.0 pre.1 pre.2.board pre.3 first inner c.if-x-ne-A.false
-    c.reaching.ensures (ltb-false _ _ c.if-reaching-ways.false-raw)
-    (pre.2.boards _ inner) _ c.way.ensures c.strike-2.ensures
+    rule6_at_alone _ _ _ pre.0 pre.1 pre.2.board pre.3 c.in-Some.ensures
+    (sym c.cell-x.ensures ∙ eqb-true _ _ (not-false _ (sym c.ne.ensures ∙ c.if-ne.false)))
+    c.reaching-else-ne.result c.reaching-else-ne.ensures (sym c.is_some.ensures ∙ c.if-is_some.false)
+    (pre.2.boards _ c.in-Some.ensures.within) c.strike-2.result c.way.ensures c.strike-2.ensures

@@ -3,46 +3,46 @@ use mathlib.Core.Path.{◌≡◌, subst}
 use native.Mathlib.Omega.{arith}
 use Rattle.rules.specs.Descriptions.{KindLine}
 use Rattle.rules.specs.Arrangements.{width}
+use Rattle.rules.specs.Closing.{rules6}
+use Rattle.by_board.specs.Found.{numbered}
 use Rattle.by_board.proofs.Asking.{line_located, located_stands, located_line}
+use Rattle.moves.specs.Moves.{emptied_cell}
+use Rattle.moves.specs.Visits.{Keeping}
 use Rattle.moves.proofs.Moving.{moved_none}
-use Rattle.moves.proofs.Passing.{counting_none, counting_lost, counting_next}
-use Rattle.panels.proofs.Visiting.{steady_line, line_visited, line_some}
+use Rattle.moves.proofs.Passing.{visited_err, counting_lost, counting_next}
+use Rattle.panels.specs.Visits.{FedBare}
+use Rattle.panels.proofs.Visiting.{steady_line, line_visited, line_lost, line_some}
 use Rattle.panels.proofs.rule6_bare.Goals as goal
 
-pub line_of-line-requires : goal.line_of-line-requires
-line_of-line-requires c = let pre = c.requires in line_located pre.0.listed pre.1
+pub line-line-requires : goal.line-line-requires
+line-line-requires c = let pre = c.requires in line_located pre.0.listed pre.1
 
 pub returns-then-line : goal.returns-then-line
 returns-then-line c =
-    let is = c.line_of-line.ensures in
+    let is = c.line-line.ensures in
     let some = line_some (located_stands c.requires.0.listed c.requires.1 is) c.if-line.true in
     λ ks fill. (
       moved_none c.requires.0.table c.requires.0.list,
-      λ e. absurd (some (subst (λ (k : KindLine). width k ≡ 0) (located_line c.args.words.now c.args.n is) e)),
+      λ e. absurd (some (subst (λ (k : KindLine). width k ≡ 0) (located_line c.args.lines.now.words.now c.args.n is) e)),
     )
-
-pub loop-z-init : goal.loop-z-init
-loop-z-init c = counting_none c.requires.0
 
 pub rule6_at-requires : goal.rule6_at-requires
 rule6_at-requires c =
     let site = c.loop-z.invariant.going.site in
-    (site.table, site.list, located_stands site.listed c.requires.1 c.line_of-line.ensures, c.loop-z-test.true)
+    (site.table, site.list, located_stands site.listed c.requires.1 c.line-line.ensures, c.loop-z-test.true)
 
-pub returns-then-not-rule6_at : goal.returns-then-not-rule6_at
-returns-then-not-rule6_at c =
-    counting_lost c.loop-z.invariant _ _ c.rule6_at.result
-    (line_visited _ _ _ c.requires.1 c.line_of-line.ensures c.loop-z-test.true _ _ _ _
-    c.rule6_at.result c.rule6_at.ensures) c.if-not-rule6_at.true-raw
-
-pub loop-z-smaller : goal.loop-z-smaller
-loop-z-smaller c = omega arith
+pub returns-in_err-rule6_at : goal.returns-in_err-rule6_at
+returns-in_err-rule6_at c =
+    let l = c.args.lines.now in
+    visited_err (Keeping rules6 l.boards) l.boards l.count l.words.now (λ ks. FedBare l.boards (numbered l.words.now c.args.n)) _ c.args.marks.now _ _
+    c.from_residual.result c.from_residual.ensures.0
+    (counting_lost c.loop-z.invariant c.rule6_at.new.cells c.rule6_at.new.marks {d = emptied_cell}
+    (line_lost _ _ _ c.requires.1 c.line-line.ensures c.loop-z-test.true c.in_err-rule6_at.ensures))
 
 pub loop-z-preserved : goal.loop-z-preserved
 loop-z-preserved c =
-    counting_next c.loop-z.invariant _ _ c.rule6_at.result
-    (line_visited _ _ _ c.requires.1 c.line_of-line.ensures c.loop-z-test.true _ _ _ _
-    c.rule6_at.result c.rule6_at.ensures) (λ z. steady_line _ _ _) c.if-not-rule6_at.false-raw
+    counting_next c.loop-z.invariant _ _ (line_visited _ _ _ c.requires.1 c.line-line.ensures c.loop-z-test.true c.in_ok-rule6_at.ensures)
+    (λ z. steady_line _ _ _)
 
 pub returns : goal.returns
 returns c =

@@ -7,7 +7,7 @@ use Rattle.moves.proofs.Passing.{Counting}
 use Rattle.panels.proofs.rule6_bare.Given as goal
 
 abbrev pub invariant-loop-z : goal.invariant-loop-z
-invariant-loop-z l = Counting (Keeping rules6 l.v) l.v l.count l.words l.found (Fed l.v (numbered l.words l.n)) l.z l.initial.cells l.initial.marks l.cells l.marks
+invariant-loop-z l = Counting (Keeping rules6 l.lines.boards) l.lines.boards l.lines.count l.lines.words.now l.lines.index.now (Fed l.lines.boards (numbered l.lines.words.now l.n)) l.z l.initial.cells l.initial.marks l.cells l.marks
 
 abbrev pub decreases-loop-z : goal.decreases-loop-z
-decreases-loop-z l = l.v - l.z
+decreases-loop-z l = l.lines.boards - l.z

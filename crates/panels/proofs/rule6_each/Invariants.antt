@@ -6,7 +6,7 @@ use Rattle.moves.proofs.Passing.{Passing}
 use Rattle.panels.proofs.rule6_each.Given as goal
 
 abbrev pub invariant-loop-n : goal.invariant-loop-n
-invariant-loop-n l = Passing (Keeping rules6 l.v) l.v l.count l.words l.found (λ n. Fed l.v (numbered l.words n) l.z) l.fn.lines l.left l.initial.cells l.initial.marks l.cells l.marks
+invariant-loop-n l = Passing (Keeping rules6 l.lines.boards) l.lines.boards l.lines.count l.lines.words.now l.lines.index.now (λ n. Fed l.lines.boards (numbered l.lines.words.now n) l.z) l.fn.numbers l.left l.initial.cells l.initial.marks l.cells l.marks
 
 abbrev pub decreases-loop-n : goal.decreases-loop-n
 decreases-loop-n l = l.left

@@ -4,18 +4,12 @@ use native.Mathlib.Omega.{arith}
 use Rattle.rules.specs.Descriptions.{most_ways}
 use Rattle.bits.proofs.Laws.{has_small}
 use Rattle.by_board.proofs.Asking.{found_numbers, place_told}
-use Rattle.moves.proofs.Passing.{board_few, passing_none, passing_lost, passing_next, passing_end, passing_less}
+use Rattle.moves.proofs.Passing.{board_few, passing_next, passing_end, passing_less}
 use Rattle.panels.proofs.Visiting.{steady_each}
 use Rattle.panels.proofs.rule6_of_ways.Goals as goal
 
-pub places-left-requires : goal.places-left-requires
-places-left-requires c = let pre = c.requires in board_few pre.0.table pre.1
-
-pub loop-i-init : goal.loop-i-init
-loop-i-init c = passing_none c.requires.0 c.places-left.ensures
-
-pub with_way-lines-requires : goal.with_way-lines-requires
-with_way-lines-requires c =
+pub with_way-requires : goal.with_way-requires
+with_way-requires c =
     let pre = c.requires in
     let board = board_few pre.0.table pre.1 in
     (board, has_small most_ways _ c.in-Some.i (pre.0.listed.told.few _ board) (c.loop-i.invariant.among c.in-Some.i c.in-Some.ensures.1))
@@ -25,12 +19,7 @@ rule6_each-requires c =
     let pre = c.requires in
     let board = board_few pre.0.table pre.1 in
     let few = has_small most_ways _ c.in-Some.i (pre.0.listed.told.few _ board) (c.loop-i.invariant.among c.in-Some.i c.in-Some.ensures.1) in
-    (c.loop-i.invariant.going.site, found_numbers pre.0.listed _ c.with_way-lines.ensures (omega (arith, board, few)), pre.2)
-
-pub returns-then-not-rule6_each : goal.returns-then-not-rule6_each
-returns-then-not-rule6_each c =
-    passing_lost c.loop-i.invariant c.in-Some.i _ _ c.rule6_each.result
-    (rw c.with_way-lines.ensures at c.rule6_each.ensures) c.if-not-rule6_each.true-raw
+    (c.loop-i.invariant.going.site, found_numbers pre.0.listed _ c.with_way.ensures (omega (arith, board, few)), pre.2)
 
 pub loop-i-smaller : goal.loop-i-smaller
 loop-i-smaller c = let taken = c.in-Some.ensures in passing_less c.loop-i.invariant c.in-Some.i taken.1 taken.3
@@ -38,9 +27,7 @@ loop-i-smaller c = let taken = c.in-Some.ensures in passing_less c.loop-i.invari
 pub loop-i-preserved : goal.loop-i-preserved
 loop-i-preserved c =
     let taken = c.in-Some.ensures in
-    passing_next c.loop-i.invariant c.in-Some.i _ _ c.rule6_each.result
-    (rw c.with_way-lines.ensures at c.rule6_each.ensures) taken.1 taken.3
-    (λ i. steady_each _ _ _ _) c.if-not-rule6_each.false-raw
+    passing_next c.loop-i.invariant c.in-Some.i _ _ (rw c.with_way.ensures at c.in_ok-rule6_each.ensures) taken.1 taken.3 (λ i. steady_each _ _ _ _)
 
 pub returns : goal.returns
 returns c =

@@ -7,7 +7,7 @@ use Rattle.panels.specs.Visits.{FedBare}
 use Rattle.panels.proofs.rule6_without_ways.Given as goal
 
 abbrev pub invariant-loop-n : goal.invariant-loop-n
-invariant-loop-n l = Counting (Keeping rules6 l.v) l.v l.count l.words l.found (λ i. FedBare l.v (numbered l.words i)) l.n l.initial.cells l.initial.marks l.cells l.marks
+invariant-loop-n l = Counting (Keeping rules6 l.lines.boards) l.lines.boards l.lines.count l.lines.words.now l.lines.index.now (λ i. FedBare l.lines.boards (numbered l.lines.words.now i)) l.n l.initial.cells l.initial.marks l.cells l.marks
 
 abbrev pub decreases-loop-n : goal.decreases-loop-n
-decreases-loop-n l = l.count - l.n
+decreases-loop-n l = l.lines.count - l.n

@@ -7,10 +7,6 @@ use Rattle.answers.proofs.refusals.Refusal.refused.Kinds as refused_kinds
 use Rattle.answers.proofs.refusals.Refusal.refused.Reads as refused
 use Rattle.answers.proofs.refusals.Refusal.later.Kinds as later_kinds
 use Rattle.answers.proofs.refusals.Refusal.later.Reads as later
-use Rattle.answers.proofs.rooms.table_room.Kinds as table_room_kinds
-use Rattle.answers.proofs.rooms.table_room.Reads as table-room
-use Rattle.answers.proofs.rooms.pairs_room.Kinds as pairs_room_kinds
-use Rattle.answers.proofs.rooms.pairs_room.Reads as pairs-room
 use Rattle.answers.proofs.rooms.words_room.Kinds as words_room_kinds
 use Rattle.answers.proofs.rooms.words_room.Reads as words_room
 
@@ -22,12 +18,6 @@ refused_determined κs a asked x y d e p q = p ∙ sym q
 
 pub later_determined : OneResult 0 later_kinds.ps later_kinds.r later.Asked later.Learnt
 later_determined κs a asked x y d e p q = p ∙ sym q
-
-pub table_room_determined : OneResult 0 table_room_kinds.ps table_room_kinds.r table-room.Asked table-room.Learnt
-table_room_determined κs a asked x y d e p q = p ∙ sym q
-
-pub pairs_room_determined : OneResult 0 pairs_room_kinds.ps pairs_room_kinds.r pairs-room.Asked pairs-room.Learnt
-pairs_room_determined κs a asked x y d e p q = p ∙ sym q
 
 pub words_room_determined : OneResult 0 words_room_kinds.ps words_room_kinds.r words_room.Asked words_room.Learnt
 words_room_determined κs a asked x y d e p q = p ∙ sym q

@@ -1,5 +1,8 @@
 -- Any two answers and tables that a contract of this crate permits are equal. Assumes nothing.
 use mathlib.Core.Path.{refl, sym, ◌∙◌}
+use Prim.Native.Nat.{ℕ}
+use mir.Syntax.{w64}
+use mir.Val.{Fits}
 use Rattle.contracts.specs.Promises.{OneResult, OneOutcome}
 use Rattle.tables.proofs.read_cells.Kinds as read_cells_kinds
 use Rattle.tables.proofs.read_cells.Reads as read_cells
@@ -7,6 +10,8 @@ use Rattle.tables.proofs.write_cells.Kinds as write_cells_kinds
 use Rattle.tables.proofs.write_cells.Reads as write_cells
 use Rattle.tables.proofs.as_asked.Kinds as as_asked_kinds
 use Rattle.tables.proofs.as_asked.Reads as as-asked
+use Rattle.tables.proofs.room.Kinds as room_kinds
+use Rattle.tables.proofs.room.Reads as room
 use Rattle.tables.proofs.cell.Kinds as cell_kinds
 use Rattle.tables.proofs.cell.Reads as cell
 use Rattle.tables.proofs.narrow.Kinds as narrow_kinds
@@ -22,6 +27,9 @@ write_cells_determined κs a asked x y d e p q = (refl, p ∙ sym q)
 
 pub as_asked_determined : OneResult 1 as_asked_kinds.ps as_asked_kinds.r as-asked.Asked as-asked.Learnt
 as_asked_determined κs a asked x y d e p q = p ∙ sym q
+
+pub room_determined : (N : ℕ) (fits : Fits w64 N) → OneResult 1 (room_kinds.ps N fits) (room_kinds.r N fits) (room.Asked N fits) (room.Learnt N fits)
+room_determined N fits κs a asked x y d e p q = p ∙ sym q
 
 pub cell_determined : OneResult 1 cell_kinds.ps cell_kinds.r cell.Asked cell.Learnt
 cell_determined κs a asked x y d e p q = p ∙ sym q

@@ -1,7 +1,7 @@
 // Tables of sets, a byte for each pair of boards.
 #![tactic(auto)]
 
-ghost use Rattle.std.specs.Prelude.{◌≡◌, ℕ, ◌≤◌, ◌<◌, length, slice_index, nat_lt};
+ghost use Rattle.std.specs.Prelude.{◌≡◌, ℕ, ◌≤◌, ◌<◌, length, replicate, slice_index, nat_lt};
 ghost use Rattle.rules.specs.Relations.{each_of, set_limit};
 ghost use Rattle.rules.specs.Descriptions.{most_boards, most_cells};
 ghost use Rattle.rules.specs.Tables.{cell, total};
@@ -9,6 +9,13 @@ ghost use Rattle.passes.specs.Passes.{Ready, Narrowed};
 ghost use Rattle.tables.specs.Asks.{asks};
 
 use relations::{RelationSet, SETS};
+
+// Room for so many sets, each of which is this one.
+pub fn room<const N: usize>(fill: RelationSet) -> [RelationSet; N]
+    ensures { result ≡ replicate N fill }
+{
+    [fill; N]
+}
 
 // Reads the cells of a lent table, each of which is a set, as sets.
 pub fn read_cells(table: &[u8], cells: &mut [RelationSet])

@@ -8,10 +8,11 @@ ghost use Rattle.kinds.specs.Lines.{line_at, StandsIn};
 ghost use Rattle.kinds.specs.Sections.{HasKinds, WithKinds};
 ghost use Rattle.ways.specs.Ways.{apart};
 
-use kinds::{KindLine, kind_at, way};
+use kinds::{KindLine, kind_at};
 use relations::RelationSet;
 
 // What rule 5 allows two ways in the places i and j: side, or anything for one and the same place.
+#[tactic(auto, unfolding(rules::specs::Relations::relations, rules::specs::Relations::set_to, rules::specs::Relations::set_of, rules::specs::Relations::full))]
 fn apart(i: usize, j: usize) -> RelationSet
     ensures { result ≡ apart i j }
 {
@@ -31,12 +32,12 @@ fn rule5(v: usize, words: &[u16], line: KindLine, cells: &mut [RelationSet]) -> 
     let end = line.end;
     let ways = &words[first..end];
     let mut struck = 0;
-    for i in 0..ways.len() {
-        let y = way(ways, i);
+    for (i, &way) in ways.iter().enumerate() {
+        let y = usize::from(way);
         let k = v * line.p + y;
         struck += tables::narrow(cells, k, RelationSet::A);
-        for j in 0..ways.len() {
-            let l = v * y + way(ways, j);
+        for (j, &other) in ways.iter().enumerate() {
+            let l = v * y + usize::from(other);
             struck += tables::narrow(cells, l, apart(i, j));
         }
     }

@@ -28,9 +28,7 @@ fn rule5(v: usize, words: &[u16], line: KindLine, cells: &mut [RelationSet]) -> 
     requires { Ready v cells.old × StandsIn v words.now line }
     ensures { Once v (rule5 (line_at words.now line)) cells.old 0 cells.new result }
 {
-    let first = line.first;
-    let end = line.end;
-    let ways = &words[first..end];
+    let ways = &words[line.first..line.end];
     let mut struck = 0;
     for (i, &way) in ways.iter().enumerate() {
         let y = usize::from(way);

@@ -18,8 +18,8 @@ use Rattle.rules.proofs.Called.{by_cells, opening_good, close_good}
 use Rattle.answers.specs.Answers.{Answer, answered, outcome}
 use Rattle.headers.specs.declared.Header.{Header}
 use Rattle.sheet.proofs.Described.{described}
-use Rattle.sweeps.specs.declared.Swept.{Swept}
-use Rattle.sweeps.specs.declared.Swept.TheVariants.{Struck, Emptied}
+use Rattle.std.specs.Prelude.{Result, Ok, Err}
+use Rattle.moves.specs.declared.Emptied.{Emptied}
 use Rattle.tables.proofs.Shapes.{square_small, cells_fit}
 use Rattle.closing.specs.Closes.{Measured, Admitted, Closes, closes, ClosesUnder, ClosedInto}
 
@@ -46,18 +46,18 @@ admitted_means {h} {ws} {t} admitted =
     (d.0, d.1.means, subst (λ (n : ℕ). Table n t) d.1.boards admitted.ready.table)
 
 -- besides, what is known where a copy u of the table was closed to w
-pub admitted_closes : {h : Header} {ws t u : List ℕ} → Admitted h ws t → u ≡ t → (w : List ℕ) (r : Swept) → ClosesUnder ws u w r
+pub admitted_closes : {h : Header} {ws t u : List ℕ} → Admitted h ws t → u ≡ t → (w : List ℕ) (r : Result ℕ Emptied) → ClosesUnder ws u w r
     → (s : Sheet) × (read ws ≡ good s) × Table s.boards t × closes s t w r
 admitted_closes admitted copy w r closed =
     let d = admitted_means admitted in
     (d.0, d.1, d.2, subst (λ (x : List ℕ). closes d.0 x w r) copy (closed d.0 d.1))
 
 -- what closing the cells t came to, told of the lent table
-module _ {h : Header} {ws t : List ℕ} (admitted : Admitted h ws t) (lent w : List ℕ) (r : Swept) (closed : ClosesUnder ws t w r) where
-  pub into_emptied : r ≡ Emptied → ClosedInto ws t lent lent (answered 7 0)
+module _ {h : Header} {ws t : List ℕ} (admitted : Admitted h ws t) (lent w : List ℕ) (r : Result ℕ Emptied) (closed : ClosesUnder ws t w r) where
+  pub into_emptied : {d : Emptied} → r ≡ Err d → ClosedInto ws t lent lent (answered 7 0)
   into_emptied e s means = into_contradictory lent s t (subst (closes s t w) e (closed s means))
 
-  pub into_struck : {x : List ℕ} {n : ℕ} → r ≡ Struck n → x ≡ w → ClosedInto ws t lent x (answered 0 n)
+  pub into_struck : {x : List ℕ} {n : ℕ} → r ≡ Ok n → x ≡ w → ClosedInto ws t lent x (answered 0 n)
   into_struck {x} {n} e f s means =
       let d = admitted_means admitted in
       let good-one : good d.0 ≡ good s = sym d.1 ∙ means in

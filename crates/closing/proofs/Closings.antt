@@ -1,6 +1,6 @@
 -- A closing, from what its parts strike: the largest closed table, counted; or that the largest one has an empty cell. Assumes nothing.
 use mathlib.Core.Path.{◌≡◌, refl, sym, ap, ◌∙◌, subst}
-use mathlib.Core.Bool.{Bool, true, false, not}
+use mathlib.Core.Bool.{not}
 use mathlib.Core.List.{List, ◌++◌}
 use Prim.Native.Nat.{ℕ, ◌+◌, ◌*◌, ◌≤◌, ◌<◌}
 use native.Mathlib.Omega.{arith}
@@ -20,8 +20,9 @@ use Rattle.passes.specs.Passes.{most_members, Filled, Idles, Once, Clash}
 use Rattle.passes.proofs.Passes.{filled_one, once_then, once_from, ready_few, ready_place}
 use Rattle.headers.specs.declared.Header.{Header}
 use Rattle.sheet.proofs.Described.{described, described_one}
-use Rattle.sweeps.specs.declared.Swept.{Swept}
-use Rattle.sweeps.specs.declared.Swept.TheVariants.{Struck, Emptied}
+use Rattle.std.specs.Prelude.{Result, Ok, Err, IsErr}
+use Rattle.rules.proofs.Tests.{clash}
+use Rattle.moves.specs.declared.Emptied.{Emptied}
 use Rattle.moves.specs.Moves.{Marks, Lost}
 use Rattle.sweeps.specs.Sweeps.{Selves}
 use Rattle.rounds.specs.Rounds.{rules_again, Settled, after_rounds, Again, Drained, drained}
@@ -113,13 +114,13 @@ module _ (s : Sheet) {v : ℕ} (boards : v ≡ s.boards) where
     closes_clash f =
         let l = closing_largest s t table in f (closing s t) l.table l.inside (again_part (Idle s.boards (closing s t)) s (closed_idle l.closed))
 
-    pub closing_again : (w : List ℕ) (r : Swept) → after_rounds v (rules_again v s.kinds) t w r → closes s t w r
-    closing_again w (Struck n) k = closes_settled (subst (λ (v : ℕ). Settled v (rules_again v s.kinds) t w n) boards k)
-    closing_again w Emptied f = closes_clash (subst (λ (v : ℕ). Clash v (rules_again v s.kinds) t) boards f)
+    pub closing_again : (w : List ℕ) (r : Result ℕ Emptied) → after_rounds v (rules_again v s.kinds) t w r → closes s t w r
+    closing_again w (Ok n) k = closes_settled (subst (λ (v : ℕ). Settled v (rules_again v s.kinds) t w n) boards k)
+    closing_again w (Err _) f = closes_clash (subst (λ (v : ℕ). Clash v (rules_again v s.kinds) t) boards f)
 
     -- the same by the list of pairs
-    pub closing_listed : (w n : List ℕ) (some : Bool) → drained v s.kinds t w n some → closes_listed s t w n some
-    closing_listed w n true d = listed (subst (λ (v : ℕ). Drained v s.kinds t w n) boards d)
+    pub closing_listed : (w n : List ℕ) (r : Result (Unit {0}) Emptied) → drained v s.kinds t w n r → closes_listed s t w n r
+    closing_listed w n (Ok _) d = listed (subst (λ (v : ℕ). Drained v s.kinds t w n) boards d)
       where
         listed : Drained s.boards s.kinds t w n → ClosesListed s t w n
         listed d =
@@ -135,7 +136,7 @@ module _ (s : Sheet) {v : ℕ} (boards : v ≡ s.boards) where
               list = d.list;
               cleared = d.cleared;
             }
-    closing_listed w n false f =
+    closing_listed w n (Err _) f =
         let l = closing_largest s t table in
         subst (λ (v : ℕ). Lost (Again v s.kinds) v t) boards f (closing s t) l.table (again_part (Idle s.boards (closing s t)) s (closed_idle l.closed)) l.inside
 
@@ -146,6 +147,11 @@ module _ (s : Sheet) {v : ℕ} (boards : v ≡ s.boards) where
         subst (λ (n : ℕ). cell n t p p lies_within E) (sym boards)
         (one_all (Idle s.boards t)
         (boards_all (Idle s.boards t) s.boards _ (append_left (Idle s.boards t) (rules1 s.boards) _ (steady t (inside_refl t))) p (subst (λ (n : ℕ). p < n) boards h)))
+
+-- an empty cell, as a `?` hands that on
+pub closes_err : (s : Sheet) (t w : List ℕ) (r : Result ℕ Emptied) → IsErr r → T (emptied (closing s t)) → closes s t w r
+closes_err s t w (Ok _) e lost = clash (cc)
+closes_err s t w (Err _) e lost = lost
 
 -- ---- a closed table and an empty list
 
@@ -211,17 +217,17 @@ module _ {h : Header} {ws t u : List ℕ} {a : ℕ} (admitted : Admitted h ws t)
             };
       }
 
-  module _ (w : List ℕ) (r : Swept) (closed : ClosesUnder ws u w r) where
-    pub struck_closes : {n : ℕ} → r ≡ Struck n → (s : Sheet) → read ws ≡ good s → Closes s t w (a + n)
+  module _ (w : List ℕ) (r : Result ℕ Emptied) (closed : ClosesUnder ws u w r) where
+    pub struck_closes : {n : ℕ} → r ≡ Ok n → (s : Sheet) → read ws ≡ good s → Closes s t w (a + n)
     struck_closes e s means = closes_after s (struck s means) (subst (closes s u w) e (closed s means))
 
-    pub struck_few : {n : ℕ} → r ≡ Struck n → a + n ≤ most_members
+    pub struck_few : {n : ℕ} → r ≡ Ok n → a + n ≤ most_members
     struck_few {n} e =
         let d = described ws h admitted.header in
         let k = (struck_closes e d.0 d.1.means).counted in
         omega (arith, ready_few admitted.ready)
 
-    pub struck_emptied : r ≡ Emptied → (s : Sheet) → read ws ≡ good s → T (emptied (closing s t))
+    pub struck_emptied : {d : Emptied} → r ≡ Err d → (s : Sheet) → read ws ≡ good s → T (emptied (closing s t))
     struck_emptied e s means =
         let d = described ws h admitted.header in
         let table = subst (λ (n : ℕ). Table n t) (d.1.boards ∙ ap (λ (s : Sheet). s.boards) (described_one d.1 means)) admitted.ready.table in

@@ -1,6 +1,5 @@
 -- What the contracts of this crate's public functions determine. Assumes nothing.
 use mathlib.Core.Path.{◌≡◌, refl, sym, ap, ◌∙◌, subst}
-use mathlib.Core.Bool.{Bool, true, false}
 use mathlib.Core.List.{List}
 use Prim.Native.Nat.{ℕ, ◌+◌}
 use native.Mathlib.Omega.{arith}
@@ -16,8 +15,9 @@ use Rattle.passes.specs.Passes.{Filled}
 use Rattle.sheet.proofs.Described.{described}
 use Rattle.by_board.proofs.Agreeing.{indexed_same}
 use Rattle.moves.proofs.Ending.{SameEnd}
-use Rattle.sweeps.specs.declared.Swept.{Swept}
-use Rattle.sweeps.specs.declared.Swept.TheVariants.{Struck, Emptied}
+use Rattle.std.specs.Prelude.{Result, Ok, Err}
+use Rattle.moves.specs.declared.Emptied.{Emptied}
+use Rattle.rules.proofs.Tests.{clash}
 use Rattle.rounds.proofs.Determined.{Fixed}
 use Rattle.closing.specs.Closes.{closes, closes_listed}
 use Rattle.closing.proofs.close_cells.Kinds as close_cells_kinds
@@ -35,25 +35,25 @@ use Rattle.closing.proofs.tell_kinds.Reads as tell-kinds
 decides : {s : Sheet} {t x : List ℕ} → Table s.boards t → Largest s t x → Filled x → T (emptied (closing s t)) → ⊥
 decides {s} {t} {x} h l f e = T_not (emptied x) f (subst (λ (y : List ℕ). T (emptied y)) (largest_unique (closing_largest s t h) l) e)
 
-closes_determined : (s : Sheet) (t : List ℕ) → Table s.boards t → (u w : List ℕ) (q r : Swept) → closes s t u q → closes s t w r → Fixed q r u w
-closes_determined s t h u w (Struck m) (Struck n) k l =
+closes_determined : (s : Sheet) (t : List ℕ) → Table s.boards t → (u w : List ℕ) (q r : Result ℕ Emptied) → closes s t u q → closes s t w r → Fixed q r u w
+closes_determined s t h u w (Ok m) (Ok n) k l =
     let e : u ≡ w = largest_unique k.largest l.largest in
     let i : m + total u ≡ total t = k.counted in
     let j : n + total w ≡ total t = l.counted in
     let same : total u ≡ total w = ap total e in
     let d : m ≡ n = omega arith in
-    (ap Struck d, λ z. e)
-closes_determined s t h u w (Struck m) Emptied k e = absurd (decides h k.largest k.filled e)
-closes_determined s t h u w Emptied (Struck n) e l = absurd (decides h l.largest l.filled e)
-closes_determined s t h u w Emptied Emptied d e = (refl, λ z. absurd (z refl))
+    (ap Ok d, λ z. e)
+closes_determined s t h u w (Ok m) (Err _) k e = absurd (decides h k.largest k.filled e)
+closes_determined s t h u w (Err _) (Ok n) e l = absurd (decides h l.largest l.filled e)
+closes_determined s t h u w (Err _) (Err _) d e = (refl, λ z. clash (cc))
 
 -- by the list of pairs
-listed_determined : (s : Sheet) (t : List ℕ) → Table s.boards t → (u k w n : List ℕ) (a b : Bool) → closes_listed s t u k a → closes_listed s t w n b
+listed_determined : (s : Sheet) (t : List ℕ) → Table s.boards t → (u k w n : List ℕ) (a b : Result (Unit {0}) Emptied) → closes_listed s t u k a → closes_listed s t w n b
     → SameEnd a b u w
-listed_determined s t h u k w n true true f g = (refl, λ e. largest_unique f.largest g.largest)
-listed_determined s t h u k w n true false f e = absurd (decides h f.largest f.fit.filled e)
-listed_determined s t h u k w n false true e g = absurd (decides h g.largest g.fit.filled e)
-listed_determined s t h u k w n false false d e = (refl, λ z. absurd z)
+listed_determined s t h u k w n (Ok _) (Ok _) f g = (refl, λ e. largest_unique f.largest g.largest)
+listed_determined s t h u k w n (Ok _) (Err _) f e = absurd (decides h f.largest f.fit.filled e)
+listed_determined s t h u k w n (Err _) (Ok _) e g = absurd (decides h g.largest g.fit.filled e)
+listed_determined s t h u k w n (Err _) (Err _) d e = (refl, λ z. absurd z)
 
 pub close_cells_determined : OfTwo 2 close_cells_kinds.ps close_cells_kinds.r close-cells.Asked close-cells.Learnt (λ κs x y d e. Fixed x y d.1.1.0.now e.1.1.0.now)
 close_cells_determined κs a asked x y d e p q =

@@ -1,5 +1,5 @@
 -- What closing a working copy of a table comes to. Assumes nothing.
-use Rattle.std.specs.Prelude.{◌≡◌, Bool, true, false, List, ◌++◌, ℕ, ◌+◌, ◌*◌, ◌-◌, T, length, take, drop, Ok}
+use Rattle.std.specs.Prelude.{◌≡◌, true, false, List, ◌++◌, ℕ, ◌+◌, ◌*◌, ◌-◌, T, length, take, drop, Result, Ok, Err}
 use Rattle.rules.specs.Descriptions.{Sheet, good, read}
 use Rattle.rules.specs.Tables.{Inside, emptied, total}
 use Rattle.rules.specs.Closed.{Largest}
@@ -10,10 +10,9 @@ use Rattle.passes.specs.Passes.{Filled, Idles, Ready, Once}
 use Rattle.headers.specs.declared.Header.{Header}
 use Rattle.sheet.specs.Found.{description_found}
 use Rattle.by_board.specs.Found.{Indexed}
+use Rattle.moves.specs.declared.Emptied.{Emptied}
 use Rattle.moves.specs.Moves.{Marks, Mutual, Owed}
 use Rattle.rounds.specs.Rounds.{Cleared}
-use Rattle.sweeps.specs.declared.Swept.{Swept}
-use Rattle.sweeps.specs.declared.Swept.TheVariants.{Struck, Emptied}
 
 -- rules 1, 4 and 5, whose bounds do not depend on the table
 abbrev pub rules_once : Sheet → List Rule
@@ -30,12 +29,12 @@ pub record Closes (s : Sheet) (t w : List ℕ) (n : ℕ) : Type 0 where
   pub counted : n + total w ≡ total t
 
 -- what a closing of t comes to: the largest closed table w, or that the largest one has an empty cell
-abbrev pub closes : Sheet → List ℕ → List ℕ → Swept → Type 0
-closes s t w (Struck n) = Closes s t w n
-closes s t w Emptied = T (emptied (closing s t))
+abbrev pub closes : Sheet → List ℕ → List ℕ → Result ℕ Emptied → Type 0
+closes s t w (Ok n) = Closes s t w n
+closes s t w (Err _) = T (emptied (closing s t))
 
 -- what a closing comes to under the description that the words mean
-abbrev pub ClosesUnder : List ℕ → List ℕ → List ℕ → Swept → Type 0
+abbrev pub ClosesUnder : List ℕ → List ℕ → List ℕ → Result ℕ Emptied → Type 0
 ClosesUnder ws t w r = (s : Sheet) → read ws ≡ good s → closes s t w r
 
 -- the table t, closed into the lent one l under the description that the words mean, may be answered with a and leave w
@@ -86,6 +85,6 @@ pub record ClosesListed (s : Sheet) (t w n : List ℕ) : Type 0 where
   pub cleared : Cleared s.boards n
 
 -- what a closing by the list comes to: that, or that the largest closed table has an empty cell
-abbrev pub closes_listed : Sheet → List ℕ → List ℕ → List ℕ → Bool → Type 0
-closes_listed s t w n true = ClosesListed s t w n
-closes_listed s t w n false = T (emptied (closing s t))
+abbrev pub closes_listed : Sheet → List ℕ → List ℕ → List ℕ → Result (Unit {0}) Emptied → Type 0
+closes_listed s t w n (Ok _) = ClosesListed s t w n
+closes_listed s t w n (Err _) = T (emptied (closing s t))

@@ -6,9 +6,12 @@ use Rattle.closing.proofs.close_by_copy.Goals as goal
 
 pub close_into-requires : goal.close_into-requires
 close_into-requires c =
-    let copy = c.copy in
-    (subst (Admitted c.args.h c.args.words.now) (sym copy.ensures) c.requires.0, sym (copy.auto.to ∙ c.requires.1))
+    let read = c.read_cells in
+    (subst (Admitted c.args.h c.args.words.now) (sym read.ensures) c.requires.0, sym (read.auto.cells ∙ c.requires.1))
 
 pub returns : goal.returns
 returns c =
-    copy_closed c.requires.0 c.copy.ensures c.close_into.ensures
+    copy_closed c.requires.0 c.read_cells.ensures c.close_into.ensures
+
+pub read_cells-requires : goal.read_cells-requires
+read_cells-requires c = (c.requires.0.ready.table.small, c.requires.1)

@@ -9,4 +9,4 @@ returns-in_default c =
 pub returns : goal.returns
 returns c =
     into_struck c.requires.0 c.args.table.now _ _ c.close_cells.ensures
-    c.in-Struck.is c.copy.ensures
+    c.in-Ok.is c.write_cells.ensures

@@ -1,11 +1,10 @@
 -- The check of a table that was admitted, by its cases: a cell that is not single, a table that closing empties, an arrangement.
 -- Assumes nothing.
 use mathlib.Core.Path.{◌≡◌, refl, sym, ap, ◌∙◌, subst}
-use mathlib.Core.Bool.{Bool, true, false, not}
+use mathlib.Core.Bool.{Bool, true, false}
 use mathlib.Core.List.{List, [], ◌∷◌}
 use Prim.Native.Nat.{ℕ, suc, ◌+◌, ◌≤◌, ◌<◌}
 use native.Mathlib.Omega.{arith}
-use borrow.Author.Tests.{not-true}
 use lib.Dec.{T, eqb, eqb→eq}
 use lib.ListN.{length, get_or}
 use Rattle.rules.specs.Relations.{each_of, size}
@@ -26,8 +25,8 @@ use Rattle.rules.proofs.Calls.{total_least, arranged_arrangement}
 use Rattle.rules.proofs.Called.{by_test, check_good}
 use Rattle.answers.specs.Answers.{answered, outcome}
 use Rattle.headers.specs.declared.Header.{Header}
-use Rattle.sweeps.specs.declared.Swept.{Swept}
-use Rattle.sweeps.specs.declared.Swept.TheVariants.{Struck, Emptied}
+use Rattle.std.specs.Prelude.{Result, Ok, Err}
+use Rattle.moves.specs.declared.Emptied.{Emptied}
 use Rattle.closing.specs.Closes.{Admitted, Closes, closes, ClosesUnder}
 use Rattle.closing.proofs.Calling.{admitted_means, admitted_closes}
 
@@ -100,19 +99,19 @@ module _ (ws t : List ℕ) (s : Sheet) (means : read ws ≡ good s) (table : Tab
 
 -- the same of a table that was admitted
 module _ {h : Header} {ws t : List ℕ} (admitted : Admitted h ws t) where
-  pub check_several : {b : Bool} → b ≡ all_single t → not b ≡ true → outcome (answered 10 0) t ≡ check ws t
-  check_several {b} said e =
+  pub check_several : {u : List ℕ} {b : Bool} → u ≡ t → b ≡ all_single u → b ≡ false → outcome (answered 10 0) t ≡ check ws t
+  check_several {u} {b} copy said e =
       let d = admitted_means admitted in
-      check_not ws t d.0 d.1 d.2 (not_single ws t d.0 d.1 d.2 (sym said ∙ not-true b e))
+      check_not ws t d.0 d.1 d.2 (not_single ws t d.0 d.1 d.2 (sym (ap all_single copy) ∙ sym said ∙ e))
 
   -- whose cells are single, and whose copy u was closed to w
-  module _ {u : List ℕ} (copy : u ≡ t) (single : true ≡ all_single t) (w : List ℕ) (r : Swept) (closed : ClosesUnder ws u w r) where
-    pub check_emptied : r ≡ Emptied → outcome (answered 10 0) t ≡ check ws t
+  module _ {u : List ℕ} (copy : u ≡ t) (single : true ≡ all_single t) (w : List ℕ) (r : Result ℕ Emptied) (closed : ClosesUnder ws u w r) where
+    pub check_emptied : {d : Emptied} → r ≡ Err d → outcome (answered 10 0) t ≡ check ws t
     check_emptied e =
         let d = admitted_closes admitted copy w r closed in
         check_not ws t d.0 d.1 d.2 (not_emptied ws t d.0 d.1 d.2 (subst (closes d.0 t w) e d.3))
 
-    pub check_closed : {n : ℕ} → r ≡ Struck n → outcome (answered 0 0) t ≡ check ws t
+    pub check_closed : {n : ℕ} → r ≡ Ok n → outcome (answered 0 0) t ≡ check ws t
     check_closed e =
         let d = admitted_closes admitted copy w r closed in
         let k = subst (closes d.0 t w) e d.3 in

@@ -20,8 +20,8 @@ use Rattle.rules.proofs.Called.{search_good}
 use Rattle.passes.specs.Passes.{Filled}
 use Rattle.answers.specs.Answers.{answered, outcome}
 use Rattle.headers.specs.declared.Header.{Header}
-use Rattle.sweeps.specs.declared.Swept.{Swept}
-use Rattle.sweeps.specs.declared.Swept.TheVariants.{Struck, Emptied}
+use Rattle.std.specs.Prelude.{Result, Ok, Err}
+use Rattle.moves.specs.declared.Emptied.{Emptied}
 use Rattle.closing.specs.Closes.{Admitted, closes, ClosesUnder}
 use Rattle.closing.proofs.Calling.{admitted_closes}
 use Rattle.choosing.specs.declared.Ended.{Ended}
@@ -66,18 +66,18 @@ module _ (ord ws t : List ℕ) (b : ℕ) (s : Sheet) (means : read ws ≡ good s
 
 -- ---- the same of a table that was admitted, whose copy u was closed to first
 
-pub first_whole : (s : Sheet) (u first : List ℕ) {r : Swept} {n : ℕ} → r ≡ Struck n → closes s u first r → Whole s first
+pub first_whole : (s : Sheet) (u first : List ℕ) {r : Result ℕ Emptied} {n : ℕ} → r ≡ Ok n → closes s u first r → Whole s first
 first_whole s u first e closed =
     let k = subst (closes s u first) e closed in record { table = k.largest.table; closed = k.largest.closed; filled = k.filled }
 
-module _ {h : Header} {ws t u : List ℕ} (admitted : Admitted h ws t) (copy : u ≡ t) (first : List ℕ) (r : Swept) (closed : ClosesUnder ws u first r) where
+module _ {h : Header} {ws t u : List ℕ} (admitted : Admitted h ws t) (copy : u ≡ t) (first : List ℕ) (r : Result ℕ Emptied) (closed : ClosesUnder ws u first r) where
   module _ (ord : List ℕ) (b : ℕ) where
-    pub search_emptied : r ≡ Emptied → outcome (answered 8 0) t ≡ searching ord ws t b
+    pub search_emptied : {d : Emptied} → r ≡ Err d → outcome (answered 8 0) t ≡ searching ord ws t b
     search_emptied e =
         let d = admitted_closes admitted copy first r closed in
         search_clash ord ws t b d.0 d.1 d.2 (subst (closes d.0 t first) e d.3)
 
-    pub search_struck : {n : ℕ} → r ≡ Struck n → (w : List ℕ) (e : Ended) → Under ws (λ s. ends (choose (closing s) ord (places s.boards) first) b w e)
+    pub search_struck : {n : ℕ} → r ≡ Ok n → (w : List ℕ) (e : Ended) → Under ws (λ s. ends (choose (closing s) ord (places s.boards) first) b w e)
         → concluded t b w e ≡ searching ord ws t b
     search_struck f w e how =
         let d = admitted_closes admitted copy first r closed in

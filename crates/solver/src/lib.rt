@@ -7,7 +7,7 @@ ghost use Rattle.rules.specs.Calls.{reading, opening, close, searching, check};
 ghost use Rattle.answers.specs.Answers.{told, outcome};
 
 use answers::Answer;
-use relations::RELATIONS;
+use relations::{RELATIONS, Relation};
 use tables::Asked;
 
 // Reads a description: 0 if it is good, or its first refusal, 1 to 5 or 11, with its place: the index of the first word that breaks the rule or, where words are
@@ -39,10 +39,15 @@ pub fn close(words: &[u16], table: &mut [u8]) -> Answer
 }
 
 // The order in which a search tries the relations: E, A, B, S.
-fn plain_order() -> [u8; RELATIONS]
+fn plain_order() -> [Relation; RELATIONS]
     ensures { result ≡ plain_order }
 {
-    [0, 1, 2, 3]
+    [
+        Relation::SAME,
+        Relation::ABOVE,
+        Relation::BELOW,
+        Relation::SIDE,
+    ]
 }
 
 // Replaces the lent table by the first arrangement inside it, in the order E, A, B, S, and answers how many tries that took. Refuses a description

@@ -4,7 +4,7 @@ use Rattle.search.proofs.conclude.Goals as goal
 
 pub returns-in-Arranged : goal.returns-in-Arranged
 returns-in-Arranged c =
-    concludes_arranged c.args.table.now c.args.budget c.args.cells.now c.in-Arranged.is c.copy.ensures
+    concludes_arranged c.args.table.now c.args.budget c.args.cells.now c.in-Arranged.is c.write_cells.ensures
 
 pub returns-in-Nowhere : goal.returns-in-Nowhere
 returns-in-Nowhere c =

@@ -1,11 +1,13 @@
 -- Rule 7 of the kind lines that read a cell: the places that two boards share, and what need not be visited. Assumes nothing.
 use mathlib.Core.Path.{◌≡◌, sym, ap, ◌∙◌, subst}
-use mathlib.Core.Bool.{Bool, true, not, ◌&&◌}
+use mathlib.Core.Bool.{Bool, false, not, ◌&&◌}
+use Rattle.std.specs.Prelude.{Result, Ok}
 use mathlib.Core.Logic.{⊎_elim}
 use mathlib.Core.List.{List, Memᴰ}
 use Prim.Native.Nat.{ℕ, ◌^◌, ◌<◌}
 use lib.Bits.{bit_and}
-use lib.Dec.{T, T_not}
+use Rattle.std.proofs.lemmas.Bool.{eqb-false}
+use lib.Dec.{T, T_not, eqb}
 use Rattle.rules.specs.Relations.{same, E, has, meet, set_to, complement}
 use Rattle.rules.specs.Descriptions.{most_boards, most_ways, KindLine}
 use Rattle.rules.specs.Tables.{cell}
@@ -20,6 +22,7 @@ use Rattle.kinds.specs.Sections.{Kinds}
 use Rattle.by_board.specs.Found.{with_panel, places_of, Listed}
 use Rattle.by_board.proofs.Asking.{place_told, panel_found, way_found}
 use Rattle.moves.specs.Watches.{Is, apart, matches, matches'}
+use Rattle.moves.specs.declared.Emptied.{Emptied}
 use Rattle.moves.specs.Moves.{Mutual, Tended, Matched, MatchedFor}
 use Rattle.moves.specs.Visits.{Site, Keeping, Visited}
 use Rattle.moves.proofs.Moving.{moved_none, tended_moved}
@@ -96,22 +99,25 @@ module _ {v count : ℕ} {ws xs t m : List ℕ} (site : Site v count ws xs t m) 
       (λ e. n (ap (λ (p : ℕ). cell v t p b) ea ∙ ap (λ (q : ℕ). cell v t k.p q) eb ∙ e)) i
 
   -- they may be the same or not: nothing is to be done
-  pub visit_open : T (has (cell v t a b) same) → (cell v t a b ≡ E → ⊥) → Visited (Keeping rules7 v) v count ws (λ ks. MatchedFor v ks a b) t m t m true
+  pub visit_open : T (has (cell v t a b) same) → (cell v t a b ≡ E → ⊥) → Visited (Keeping rules7 v) v count ws (λ ks. MatchedFor v ks a b) t m t m (Ok tt)
   visit_open h n ks fill = (
     moved_none site.table site.list,
     record { panels = λ k hk l hl i w. may_panels ks fill h k hk l hl i; ways = λ k hk l hl a i w. need_ways n k l i },
   )
 
-  -- by the test that is made of them
-  pub meets_matched : (meet (cell v t a b) 1 ≡ 0 → ⊥) → (cell v t a b ≡ 1 → ⊥) → (ks : List KindLine) → Kinds v count ws ks → MatchedFor v ks a b m t
-  meets_matched d n ks fill = (visit_open (shared_has same (cell v t a b) d) n ks fill).1
+  -- by the tests that are made of their cell
+  pub visit_may : {x y : ℕ} {is lacks : Bool} → x ≡ cell v t a b → is ≡ eqb x E → is ≡ false → y ≡ meet x E → lacks ≡ eqb y 0 → lacks ≡ false
+      → Visited (Keeping rules7 v) v count ws (λ ks. MatchedFor v ks a b) t m t m (Ok tt)
+  visit_may {x} {y} read told d met told' e =
+      visit_open (shared_has same (cell v t a b) (λ n. eqb-false y 0 (sym told' ∙ e) (met ∙ ap (λ (x : ℕ). meet x E) read ∙ n)))
+      (λ n. eqb-false x E (sym told ∙ d) (read ∙ n))
 
-  module _ (w n : List ℕ) (some : Bool) where
+  module _ (w n : List ℕ) (r : Result (Unit {0}) Emptied) where
     -- they must be the same: what reads them as panels is visited
-    pub visit_panels : cell v t a b ≡ E → Visited (Keeping rules7 v) v count ws (λ ks. Each v ws (with_panel xs a) (with_panel xs b)) t m w n some
-        → Visited (Keeping rules7 v) v count ws (λ ks. MatchedFor v ks a b) t m w n some
+    pub visit_panels : cell v t a b ≡ E → Visited (Keeping rules7 v) v count ws (λ ks. Each v ws (with_panel xs a) (with_panel xs b)) t m w n r
+        → Visited (Keeping rules7 v) v count ws (λ ks. MatchedFor v ks a b) t m w n r
     visit_panels e h ks fill =
-        went_so (Keeping rules7 v ks) v (Each v ws (with_panel xs a) (with_panel xs b)) (MatchedFor v ks a b) t m w n some
+        went_so (Keeping rules7 v ks) v (Each v ws (with_panel xs a) (with_panel xs b)) (MatchedFor v ks a b) t m w n r
         (λ moved each.
         record {
           panels =
@@ -130,10 +136,10 @@ module _ {v count : ℕ} {ws xs t m : List ℕ} (site : Site v count ws xs t m) 
             numbered_matched kp lq (each p first q second)
 
     -- they are not the same: what reads them as ways is visited
-    pub visit_ways : (cell v t a b ≡ E → ⊥) → Visited (Keeping rules7 v) v count ws (λ ks. ByWays v ws xs a b) t m w n some
-        → Visited (Keeping rules7 v) v count ws (λ ks. MatchedFor v ks a b) t m w n some
+    pub visit_ways : (cell v t a b ≡ E → ⊥) → Visited (Keeping rules7 v) v count ws (λ ks. ByWays v ws xs a b) t m w n r
+        → Visited (Keeping rules7 v) v count ws (λ ks. MatchedFor v ks a b) t m w n r
     visit_ways e h ks fill =
-        went_so (Keeping rules7 v ks) v (ByWays v ws xs a b) (MatchedFor v ks a b) t m w n some
+        went_so (Keeping rules7 v ks) v (ByWays v ws xs a b) (MatchedFor v ks a b) t m w n r
         (λ moved each.
         record {
           panels =

@@ -1,13 +1,15 @@
 -- Rule 7 for two kind lines, by the tests that are made of them and the cells that are struck. Assumes nothing.
-use mathlib.Core.Path.{◌≡◌, sym, ap, ◌∙◌, subst}
+use mathlib.Core.Path.{◌≡◌, sym, ap, ap₂, ◌∙◌, subst}
 use mathlib.Core.Bool.{Bool, true, false, ◌&&◌}
 use mathlib.Core.List.{List, ◌++◌, flat_map}
-use Prim.Native.Nat.{ℕ, ◌+◌, ◌*◌, ◌≤◌, ◌<◌}
+use Prim.Native.Nat.{ℕ, ◌+◌, ◌*◌, ◌<◌}
 use borrow.Author.Count.{below_more}
-use lib.Dec.{T, T_not}
+use Rattle.std.specs.Prelude.{Result, Ok, Err}
+use Rattle.std.proofs.lemmas.Bool.{eqb-true, eqb-false}
+use lib.Dec.{T, T_not, eqb}
 use lib.ListN.{length, get_or}
 use Rattle.rules.specs.Relations.{same, E, has, Lacks, meet, complement, ◌lies_within◌, converse}
-use Rattle.rules.specs.Descriptions.{most_boards, most_cells, KindLine}
+use Rattle.rules.specs.Descriptions.{KindLine}
 use Rattle.rules.specs.Tables.{cell, Inside, up_to}
 use Rattle.rules.specs.Arrangements.{way, width, Alike}
 use Rattle.rules.specs.Closing.{agree, bound7, bound7', Rule, Idle, lies, only, ways_of, rules2, rule7}
@@ -16,13 +18,13 @@ use Rattle.rules.proofs.Digits.{has_single}
 use Rattle.rules.proofs.Sets.{lies_trans, lies_one, unshared_lacks, shared_has}
 use Rattle.rules.proofs.Members.{all_append, all_one, one_all, append_left, append_right}
 use Rattle.rules.proofs.Rules.{same_small, unless_in, lacks_lies, lies_lacks, only_all, boards_all, all_ways, ways_all, alike_agree, bound7_apart, says7'', said7'', bound7_grows}
-use Rattle.passes.specs.Passes.{Ready, Idles}
-use Rattle.passes.proofs.Passes.{place_few, ready_place}
+use Rattle.passes.specs.Passes.{Idles}
+use Rattle.moves.specs.declared.Emptied.{Emptied}
 use Rattle.moves.specs.Moves.{Marks, Mutual, Struck, Moved, Lost, Went, Matched}
 use Rattle.moves.proofs.Striking.{cell_some}
 use Rattle.moves.proofs.Moving.{moved_none, moved_then, lost_then, strike_moved, strike_lost, strike_within, moved_as, lost_as, moved_inside, lost_inside}
 use Rattle.moves.proofs.Passing.{turned}
-use Rattle.same_panels.specs.Pairs.{Facing, pair_place, paired, joined, Joined}
+use Rattle.same_panels.specs.Pairs.{Facing, paired, joined, Joined}
 
 -- ---- ways in the same place
 
@@ -44,28 +46,22 @@ module _ {v : ℕ} {ws us : List ℕ} (facing : Facing v ws us) {i : ℕ} (withi
   pub other_within : i < length us
   other_within = subst (λ (n : ℕ). i < n) facing.same within
 
-  pub pair_few : v ≤ most_boards → pair_place v ws us i < most_cells
-  pair_few h = place_few h (facing.ways i within) (facing.others i other_within)
+  -- x is the cell of the two ways a and b, and z tells that it lacks E
+  module _ (t : List ℕ) {a b x y : ℕ} {z : Bool} (first : a ≡ get_or ws i 0) (second : b ≡ get_or us i 0) (read : x ≡ cell v t a b) (met : y ≡ meet x E)
+      (told : z ≡ eqb y 0) where
+    met_cell : y ≡ meet (cell v t (get_or ws i 0) (get_or us i 0)) E
+    met_cell = met ∙ ap (λ (n : ℕ). meet n E) (read ∙ ap₂ (cell v t) first second)
 
-  -- k is the place of their cell
-  module _ {k : ℕ} (place : k ≡ pair_place v ws us i) where
-    pub pair_inside : {t : List ℕ} → Ready v t → k < length t
-    pair_inside {t} ready =
-        subst (λ (n : ℕ). n < length t) (sym place) (ready_place ready (facing.ways i within) (facing.others i other_within))
+    pub paired_not : z ≡ true → false ≡ paired v t ws us
+    paired_not e =
+        sym
+        (T_false
+        (λ a. T_not (pair_has v t ws us i)
+        (unshared_lacks same (cell v t (get_or ws i 0) (get_or us i 0)) same_small (sym met_cell ∙ eqb-true y 0 (sym told ∙ e)))
+        (each_at (length ws) (pair_has v t ws us) a i within)))
 
-    module _ (t : List ℕ) {z : ℕ} (meets : z ≡ meet (get_or t k 0) E) where
-      met : z ≡ meet (get_or t (pair_place v ws us i) 0) E
-      met = meets ∙ ap (λ (n : ℕ). meet (get_or t n 0) E) place
-
-      pub paired_not : z ≡ 0 → false ≡ paired v t ws us
-      paired_not e =
-          sym
-          (T_false
-          (λ a. T_not (pair_has v t ws us i) (unshared_lacks same (get_or t (pair_place v ws us i) 0) same_small (sym met ∙ e))
-          (each_at (length ws) (pair_has v t ws us) a i within)))
-
-      pub pairs : (z ≡ 0 → ⊥) → Pairs v t ws us i
-      pairs n = shared_has same (get_or t (pair_place v ws us i) 0) (λ e. n (met ∙ e))
+    pub pairs : z ≡ false → Pairs v t ws us i
+    pairs e = shared_has same (cell v t (get_or ws i 0) (get_or us i 0)) (λ n. eqb-false y 0 (sym told ∙ e) (met_cell ∙ n))
 
   -- a table in which these rules strike nothing survives a strike of all but same
   kept : (x : List ℕ) → Idles v (joined v ws us) x
@@ -75,31 +71,25 @@ module _ {v : ℕ} {ws us : List ℕ} (facing : Facing v ws us) {i : ℕ} (withi
     turned v x (append_left (Idle v x) (rules2 v) (flat_map (pair ws us) (up_to (length ws))) d) (get_or ws i 0) (get_or us i 0) (facing.ways i within) (facing.others i other_within),
   )
 
-  -- a and b are the two ways
+  -- the two ways are a and b; they are struck after the pairs before them
   module _ {a b : ℕ} (first : a ≡ get_or ws i 0) (second : b ≡ get_or us i 0) where
-    pub pair_boards : (a < v) × (b < v)
-    pair_boards =
-        (subst (λ (n : ℕ). n < v) (sym first) (facing.ways i within), subst (λ (n : ℕ). n < v) (sym second) (facing.others i other_within))
+    module _ {t m u k w n : List ℕ} (before : Moved (Idles v (joined v ws us)) v t m u k) where
+      struck : {r : Result (Unit {0}) Emptied} → Struck v a b E u k w n r → Struck v (get_or ws i 0) (get_or us i 0) E u k w n r
+      struck {r} s =
+          subst (λ (p : ℕ). Struck v p (get_or us i 0) E u k w n r) first (subst (λ (q : ℕ). Struck v a q E u k w n r) second s)
 
-    -- after the pairs before it
-    module _ {t m u k w n : List ℕ} {some : Bool} (before : Moved (Idles v (joined v ws us)) v t m u k) (s : Struck v a b E u k w n some) where
-      struck : {z : Bool} → some ≡ z → Struck v (get_or ws i 0) (get_or us i 0) E u k w n z
-      struck {z} e =
-          subst (λ (p : ℕ). Struck v p (get_or us i 0) E u k w n z) first
-          (subst (λ (q : ℕ). Struck v a q E u k w n z) second (subst (λ (y : Bool). Struck v a b E u k w n y) e s))
-
-      pub joined_more : ((j : ℕ) → j < i → cell v u (get_or ws j 0) (get_or us j 0) lies_within E) → some ≡ true
+      pub joined_more : {d : Unit {0}} → Struck v a b E u k w n (Ok d) → ((j : ℕ) → j < i → cell v u (get_or ws j 0) (get_or us j 0) lies_within E)
           → Moved (Idles v (joined v ws us)) v t m w n × ((j : ℕ) → j < i + 1 → cell v w (get_or ws j 0) (get_or us j 0) lies_within E)
-      joined_more f e =
-          let moved = strike_moved before.fit before.list (facing.ways i within) (facing.others i other_within) kept (struck e) in (
+      joined_more s f =
+          let moved = strike_moved before.fit before.list (facing.ways i within) (facing.others i other_within) kept (struck s) in (
             moved_then before moved,
-            below_more _ _ (λ j l. lies_trans (moved.inside.each (pair_place v ws us j)) (f j l))
-                (strike_within before.fit before.list (facing.ways i within) (facing.others i other_within) kept (struck e)),
+            below_more _ _ (λ j l. lies_trans (moved.inside.each (v * get_or ws j 0 + get_or us j 0)) (f j l))
+                (strike_within before.fit before.list (facing.ways i within) (facing.others i other_within) kept (struck s)),
           )
 
-      pub joined_lost : some ≡ false → Lost (Idles v (joined v ws us)) v t
-      joined_lost e =
-          lost_then before (strike_lost before.fit before.list (facing.ways i within) (facing.others i other_within) kept (struck e))
+      pub joined_lost : {d : Emptied} → Struck v a b E u k w n (Err d) → Lost (Idles v (joined v ws us)) v t
+      joined_lost s =
+          lost_then before (strike_lost before.fit before.list (facing.ways i within) (facing.others i other_within) kept (struck s))
 
 -- ---- what is then seen to
 
@@ -180,8 +170,13 @@ module _ (v : ℕ) (k l : KindLine) where
 
   module _ {t m : List ℕ} (u : Mutual v t) (marks : Marks v m) (hp : k.p < v) (hq : l.p < v) where
     -- the panels are not the same: nothing is to be struck
-    pub rule7_apart : meet (cell v t k.p l.p) E ≡ 0 → Moved (Idles v both) v t m t m × Matched v k l m t
-    rule7_apart e = (moved_none u marks, matched_apart u hp hq (unshared_lacks same (cell v t k.p l.p) same_small e))
+    pub rule7_apart : {x y : ℕ} {z : Bool} → x ≡ cell v t k.p l.p → y ≡ meet x E → z ≡ eqb y 0 → z ≡ true
+        → Moved (Idles v both) v t m t m × Matched v k l m t
+    rule7_apart {y = y} read met told e = (
+      moved_none u marks,
+      matched_apart u hp hq
+          (unshared_lacks same (cell v t k.p l.p) same_small (sym (met ∙ ap (λ (n : ℕ). meet n E) read) ∙ eqb-true y 0 (sym told ∙ e))),
+    )
 
     -- all of that agrees, and the panels may be the same or not: nothing is to be struck
     pub rule7_open : Alike k l → {b : Bool} → b ≡ paired v t k.ways l.ways → b ≡ true → (cell v t k.p l.p ≡ E → ⊥)
@@ -191,9 +186,9 @@ module _ (v : ℕ) (k l : KindLine) where
 
   module _ (t m w n : List ℕ) (u : Mutual v t) (marks : Marks v m) (hp : k.p < v) (hq : l.p < v) where
     -- code, number of ways or a pair of ways differs: E is struck
-    pub rule7_struck : (Alike k l → paired v t k.ways l.ways ≡ true → ⊥) → (some : Bool) → Struck v k.p l.p (complement E) t m w n some
-        → Went (Idles v both) v (Matched v k l) t m w n some
-    rule7_struck d some s = go some s
+    pub rule7_struck : (Alike k l → paired v t k.ways l.ways ≡ true → ⊥) → (r : Result (Unit {0}) Emptied) → Struck v k.p l.p (complement E) t m w n r
+        → Went (Idles v both) v (Matched v k l) t m w n r
+    rule7_struck d r s = go r s
       where
         kept_apart : (x : List ℕ) → Inside x t × Idles v both x
             → (cell v x k.p l.p lies_within complement E) × (cell v x l.p k.p lies_within converse (cell v x k.p l.p))
@@ -202,17 +197,17 @@ module _ (v : ℕ) (k l : KindLine) where
           turned v x (append_left (Idle v x) (rules2 v) (rule7 v k l) idle) k.p l.p hp hq,
         )
 
-        go : (some : Bool) → Struck v k.p l.p (complement E) t m w n some → Went (Idles v both) v (Matched v k l) t m w n some
-        go true s =
+        go : (r : Result (Unit {0}) Emptied) → Struck v k.p l.p (complement E) t m w n r → Went (Idles v both) v (Matched v k l) t m w n r
+        go (Ok _) s =
             let moved = strike_moved {C = λ x. Inside x t × Idles v both x} u marks hp hq kept_apart s in
             (moved_inside moved, matched_apart moved.fit hp hq (lies_lacks _ same same_small (strike_within {C = λ x. Inside x t × Idles v both x} u marks hp hq kept_apart s)))
-        go false s = lost_inside (strike_lost {C = λ x. Inside x t × Idles v both x} u marks hp hq kept_apart s)
+        go (Err _) s = lost_inside (strike_lost {C = λ x. Inside x t × Idles v both x} u marks hp hq kept_apart s)
 
     -- the panels are the same, and so are their ways
-    pub rule7_joined : Alike k l → Facing v k.ways l.ways → cell v t k.p l.p ≡ E → (some : Bool)
-        → Went (Idles v (joined v k.ways l.ways)) v (λ n w. Joined v k.ways l.ways w) t m w n some
-        → Went (Idles v both) v (Matched v k l) t m w n some
-    rule7_joined a facing e some s = go some s
+    pub rule7_joined : Alike k l → Facing v k.ways l.ways → cell v t k.p l.p ≡ E → (r : Result (Unit {0}) Emptied)
+        → Went (Idles v (joined v k.ways l.ways)) v (λ n w. Joined v k.ways l.ways w) t m w n r
+        → Went (Idles v both) v (Matched v k l) t m w n r
+    rule7_joined a facing e r s = go r s
       where
         kept_joined : (x : List ℕ) → Inside x t × Idles v both x → Idles v (joined v k.ways l.ways) x
         kept_joined x (i, idle) =
@@ -223,7 +218,7 @@ module _ (v : ℕ) (k l : KindLine) where
             (says7'' v x k l j (ways_idle idle (alike_agree k l a) j h)
             (subst (λ (b : ℕ). cell v x k.p l.p lies_within b) e (i.each (v * k.p + l.p))))))
 
-        go : (some : Bool) → Went (Idles v (joined v k.ways l.ways)) v (λ n w. Joined v k.ways l.ways w) t m w n some
-            → Went (Idles v both) v (Matched v k l) t m w n some
-        go true (moved, f) = (moved_inside (moved_as kept_joined moved), matched_joined moved.fit hp hq a facing f)
-        go false lost = lost_inside (lost_as kept_joined lost)
+        go : (r : Result (Unit {0}) Emptied) → Went (Idles v (joined v k.ways l.ways)) v (λ n w. Joined v k.ways l.ways w) t m w n r
+            → Went (Idles v both) v (Matched v k l) t m w n r
+        go (Ok _) (moved, f) = (moved_inside (moved_as kept_joined moved), matched_joined moved.fit hp hq a facing f)
+        go (Err _) lost = lost_inside (lost_as kept_joined lost)

@@ -1,6 +1,6 @@
 -- Rule 7 of many kind lines: two lines of them at a time, one pair of lines after another, and the numbers of a set in turn. Assumes nothing.
 use mathlib.Core.Path.{◌≡◌, sym, subst}
-use mathlib.Core.Bool.{Bool}
+use Rattle.std.specs.Prelude.{Result}
 use mathlib.Core.List.{List, ◌++◌, flat_map, Memᴰ}
 use Prim.Native.Nat.{ℕ, ◌<◌}
 use Rattle.rules.specs.Descriptions.{KindLine, SameArity}
@@ -14,6 +14,7 @@ use Rattle.by_board.specs.Found.{start_of, numbered, Listed}
 use Rattle.by_board.proofs.Numbers.{numbered_in, numbered_out}
 use Rattle.by_board.proofs.Asking.{located_stands, located_line}
 use Rattle.moves.specs.Watches.{apart, matches, matches'}
+use Rattle.moves.specs.declared.Emptied.{Emptied}
 use Rattle.moves.specs.Moves.{Moved, Went, Matched}
 use Rattle.moves.specs.Visits.{Keeping, Visited}
 use Rattle.moves.proofs.Moving.{tended_moved}
@@ -31,13 +32,6 @@ matched_moved {v = v} {k = k} {l} g f =
       panels = λ i h. tended_moved g (matches v k l i) (matches_honest v k l i) (f.panels i h);
       ways = λ a i h. tended_moved g (matches' v k l i) (matches'_honest v k l i) (f.ways a i h);
     }
-
--- two lines of one code and with two panels are brought up by a pair on the list; of others all is seen to if all is seen to of the two
-pub unlisted_none : {v : ℕ} {m t : List ℕ} {k l : KindLine} → k.code ≡ l.code → (k.p ≡ l.p → ⊥) → Unlisted v k l m t
-unlisted_none e d = record { codes = λ n. absurd (n e); panels = λ p. absurd (d p) }
-
-pub unlisted_two : {v : ℕ} {m t : List ℕ} {k l : KindLine} → Matched v k l m t → Unlisted v k l m t
-unlisted_two seen = record { codes = λ d. seen; panels = λ e. seen }
 
 -- rule 2 and rule 7 of every two lines ask what rule 2 and rule 7 of two of them do
 kept_two : (v : ℕ) {ks : List KindLine} {k l : KindLine} → Memᴰ k ks → Memᴰ l ks → (x : List ℕ) → Keeping rules7 v ks x → Idles v (rules2 v ++ rule7 v k l) x
@@ -87,11 +81,11 @@ module _ {v count : ℕ} {ws xs : List ℕ} (listed : Listed v count ws xs) {n o
       )
 
   -- what loses no table in which rule 2 and rule 7 of the two strike nothing, loses none in which those of every two do
-  pub two_visited : (P : KindLine → KindLine → List ℕ → List ℕ → Type 0) (t m w r : List ℕ) (some : Bool)
-      → Went (Idles v (rules2 v ++ rule7 v (line_at ws line) (line_at ws other))) v (P (line_at ws line) (line_at ws other)) t m w r some
-      → Visited (Keeping rules7 v) v count ws (λ ks. P (numbered ws n) (numbered ws o)) t m w r some
-  two_visited P t m w r some h ks fill =
-      went_as (Idles v (rules2 v ++ rule7 v (numbered ws n) (numbered ws o))) (Keeping rules7 v ks) v (P (numbered ws n) (numbered ws o)) t m w r some
+  pub two_visited : (P : KindLine → KindLine → List ℕ → List ℕ → Type 0) (t m w u : List ℕ) (r : Result (Unit {0}) Emptied)
+      → Went (Idles v (rules2 v ++ rule7 v (line_at ws line) (line_at ws other))) v (P (line_at ws line) (line_at ws other)) t m w u r
+      → Visited (Keeping rules7 v) v count ws (λ ks. P (numbered ws n) (numbered ws o)) t m w u r
+  two_visited P t m w u r h ks fill =
+      went_as (Idles v (rules2 v ++ rule7 v (numbered ws n) (numbered ws o))) (Keeping rules7 v ks) v (P (numbered ws n) (numbered ws o)) t m w u r
       (kept_two v (numbered_in v count ws ks fill n hn) (numbered_in v count ws ks fill o ho))
-      (subst (λ (l : KindLine). Went (Idles v (rules2 v ++ rule7 v (numbered ws n) l)) v (P (numbered ws n) l) t m w r some) (sym (located_line ws o second))
-      (subst (λ (k : KindLine). Went (Idles v (rules2 v ++ rule7 v k (line_at ws other))) v (P k (line_at ws other)) t m w r some) (sym (located_line ws n first)) h))
+      (subst (λ (l : KindLine). Went (Idles v (rules2 v ++ rule7 v (numbered ws n) l)) v (P (numbered ws n) l) t m w u r) (sym (located_line ws o second))
+      (subst (λ (k : KindLine). Went (Idles v (rules2 v ++ rule7 v k (line_at ws other))) v (P k (line_at ws other)) t m w u r) (sym (located_line ws n first)) h))

@@ -1,5 +1,5 @@
 -- The ways of two panels, in the same positions. Assumes nothing.
-use Rattle.std.specs.Prelude.{◌≡◌, Bool, ℕ, ◌+◌, ◌*◌, ◌<◌, length, slice_index}
+use Rattle.std.specs.Prelude.{◌≡◌, Bool, ℕ, ◌<◌, length, slice_index}
 use mathlib.Core.List.{List, ◌++◌, flat_map}
 use Rattle.rules.specs.Relations.{each_below, same, E, has, ◌lies_within◌}
 use Rattle.rules.specs.Tables.{cell, up_to}
@@ -11,10 +11,6 @@ pub record Facing (v : ℕ) (ws us : List ℕ) : Type 0 where
   pub ways : Below v ws
   pub others : Below v us
   pub same : length ws ≡ length us
-
--- the place of the cell of the two ways in position i
-abbrev pub pair_place : ℕ → List ℕ → List ℕ → ℕ → ℕ
-pair_place v ws us i = v * slice_index ws i + slice_index us i
 
 -- each pair of ways in the same position has E
 abbrev pub paired : ℕ → List ℕ → List ℕ → List ℕ → Bool

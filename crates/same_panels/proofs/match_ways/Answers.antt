@@ -1,42 +1,33 @@
--- `match_ways` meets its contract: the pairs of ways passed are the same, and no table is lost that is to be kept. The measure is the ways left.
--- Assumes nothing.
+-- `match_ways` meets its contract: the pairs of ways passed are the same, and no table is lost that is to be kept. Assumes nothing.
+use borrow.Author.Rules.{rules}
+use mathlib.Core.Path.{◌∙◌}
+use mathlib.Core.List.{[], ◌∷◌}
+use lib.ListN.{length-append}
 use native.Mathlib.Omega.{arith}
-use borrow.Author.Count.{below_none}
-use borrow.Author.Tests.{not-true, not-false}
-use Rattle.rules.specs.Relations.{relations}
-use Rattle.moves.proofs.Moving.{moved_none}
-use Rattle.same_panels.proofs.Matching.{other_within, pair_boards, joined_more, joined_lost}
+use Rattle.std.proofs.lemmas.Slice.Zip.{zip_turn, zip_end}
+use Rattle.passes.specs.Passes.{Idles}
+use Rattle.moves.proofs.Passing.{went_err}
+use Rattle.same_panels.specs.Pairs.{joined, Joined}
+use Rattle.same_panels.proofs.Matching.{joined_more, joined_lost}
 use Rattle.same_panels.proofs.match_ways.Goals as goal
 
-pub loop-i-init : goal.loop-i-init
-loop-i-init c = let pre = c.requires in (omega arith, moved_none pre.0 pre.1, below_none _)
+pub returns-in_err-strike : goal.returns-in_err-strike
+returns-in_err-strike c =
+    let turn = zip_turn c.args.ways.now c.args.others.now _ _ _ c.next.new.self _ (search rules) (search rules) c.loop-way.yielded_by _ c.in-Some.is c.next.ensures.steps in
+    went_err (Idles c.args.v (joined c.args.v c.args.ways.now c.args.others.now)) c.args.v (λ n w. Joined c.args.v c.args.ways.now c.args.others.now w) _ c.args.marks.now _ _
+    c.from_residual.result c.from_residual.ensures.0
+    (joined_lost c.requires.2 turn.0 (c.from-p.ensures ∙ turn.2 0) (c.from-q.ensures ∙ turn.3 0) c.loop-way.invariant.0 c.in_err-strike.ensures)
 
-pub way-requires-in-loop-i : goal.way-requires-in-loop-i
-way-requires-in-loop-i c =
-    other_within c.requires.2 c.loop-i-test.true
-
-pub strike-requires : goal.strike-requires
-unfolding relations
-strike-requires c =
-    let moved = c.loop-i.invariant.1 in
-    let boards = pair_boards c.requires.2 c.loop-i-test.true c.way.ensures c.way-in-loop-i.ensures in
-    (moved.fit, moved.list, boards.0, boards.1, omega arith)
-
-pub returns-then-not-strike : goal.returns-then-not-strike
-returns-then-not-strike c =
-    joined_lost c.requires.2 c.loop-i-test.true c.way.ensures
-    c.way-in-loop-i.ensures c.loop-i.invariant.1 c.strike.ensures (not-true _ c.if-not-strike.true-raw)
-
-pub loop-i-smaller : goal.loop-i-smaller
-loop-i-smaller c = omega arith
-
-pub loop-i-preserved : goal.loop-i-preserved
-loop-i-preserved c =
-    let (few, moved, each) = c.loop-i.invariant in
+pub loop-way-preserved : goal.loop-way-preserved
+loop-way-preserved c =
+    let turn = zip_turn c.args.ways.now c.args.others.now _ _ _ c.next.new.self _ (search rules) (search rules) c.loop-way.yielded_by _ c.in-Some.is c.next.ensures.steps in
+    let (moved, each) = c.loop-way.invariant in
     let (more, also) =
-    joined_more c.requires.2 c.loop-i-test.true c.way.ensures
-    c.way-in-loop-i.ensures moved c.strike.ensures each (not-false _ c.if-not-strike.false-raw) in
-    (omega arith, more, also)
+    joined_more c.requires.2 turn.0 (c.from-p.ensures ∙ turn.2 0) (c.from-q.ensures ∙ turn.3 0) moved c.in_ok-strike.ensures each in
+    (more, λ j h. also j (omega (arith, length-append c.loop-way.yielded ((c.in-Some.field-0-0, c.in-Some.field-0-1) ∷ []), h)))
 
 pub returns : goal.returns
-returns c = let (few, moved, each) = c.loop-i.invariant in (moved, λ i h. each i (omega (arith, c.loop-i-test.false)))
+returns c =
+    let end = zip_end c.args.ways.now c.args.others.now _ _ _ c.next.new.self _ (search rules) (search rules) c.loop-way.yielded_by c.in-None.is c.next.ensures.steps in
+    let (moved, each) = c.loop-way.invariant in
+    (moved, λ i h. each i (omega (arith, end, c.requires.2.same, h)))

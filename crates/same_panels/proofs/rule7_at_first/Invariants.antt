@@ -6,7 +6,7 @@ use Rattle.same_panels.specs.Visits.{FirstBeside}
 use Rattle.same_panels.proofs.rule7_at_first.Given as goal
 
 abbrev pub invariant-loop-n : goal.invariant-loop-n
-invariant-loop-n l = Counting (Keeping rules7 l.v) l.v l.count l.words l.found (FirstBeside l.v l.count l.words) l.n l.initial.cells l.initial.marks l.cells l.marks
+invariant-loop-n l = Counting (Keeping rules7 l.lines.boards) l.lines.boards l.lines.count l.lines.words.now l.lines.index.now (FirstBeside l.lines.boards l.lines.count l.lines.words.now) l.n l.initial.cells l.initial.marks l.cells l.marks
 
 abbrev pub decreases-loop-n : goal.decreases-loop-n
-decreases-loop-n l = l.count - l.n
+decreases-loop-n l = l.lines.count - l.n

@@ -6,7 +6,7 @@ use Rattle.moves.proofs.Passing.{Passing}
 use Rattle.same_panels.proofs.rule7_beside.Given as goal
 
 abbrev pub invariant-loop-o : goal.invariant-loop-o
-invariant-loop-o l = Passing (Keeping rules7 l.v) l.v l.count l.words l.found (λ o. Matched l.v (numbered l.words l.n) (numbered l.words o)) l.fn.others l.left l.initial.cells l.initial.marks l.cells l.marks
+invariant-loop-o l = Passing (Keeping rules7 l.lines.boards) l.lines.boards l.lines.count l.lines.words.now l.lines.index.now (λ o. Matched l.lines.boards (numbered l.lines.words.now l.n) (numbered l.lines.words.now o)) l.fn.others l.left l.initial.cells l.initial.marks l.cells l.marks
 
 abbrev pub decreases-loop-o : goal.decreases-loop-o
 decreases-loop-o l = l.left

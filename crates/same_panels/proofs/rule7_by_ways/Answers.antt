@@ -1,21 +1,16 @@
 -- `rule7_by_ways` meets its contract: rule 7 is seen to of the lines that share each place that is not left. The measure is the set of those left, as a
 -- number. Assumes nothing.
-use mathlib.Core.Path.{ap₂, ◌∙◌}
 use native.Mathlib.Omega.{arith}
-use lib.Bits.{bit_and}
 use Rattle.rules.specs.Descriptions.{most_ways}
 use Rattle.bits.proofs.Laws.{has_small}
 use Rattle.by_board.proofs.Asking.{found_numbers}
-use Rattle.moves.proofs.Passing.{passing_none, passing_lost, passing_next, passing_end, passing_less}
+use Rattle.moves.proofs.Passing.{passing_next, passing_end, passing_less}
 use Rattle.same_panels.proofs.Visiting.{steady_each}
 use Rattle.same_panels.proofs.Finding.{shared_small, by_ways}
 use Rattle.same_panels.proofs.rule7_by_ways.Goals as goal
 
-pub loop-i-init : goal.loop-i-init
-loop-i-init c = passing_none c.requires.0 (c.bitand-left.ensures ∙ ap₂ bit_and c.places.ensures c.places-2.ensures)
-
-pub with_way-lines-requires : goal.with_way-lines-requires
-with_way-lines-requires c =
+pub with_way-numbers-requires : goal.with_way-numbers-requires
+with_way-numbers-requires c =
     let pre = c.requires in
     (pre.1, has_small most_ways _ c.in-Some.i (shared_small pre.0.listed pre.1 pre.2) (c.loop-i.invariant.among c.in-Some.i c.in-Some.ensures.1))
 
@@ -28,15 +23,9 @@ pub rule7_each-requires : goal.rule7_each-requires
 rule7_each-requires c =
     let pre = c.requires in
     let few = has_small most_ways _ c.in-Some.i (shared_small pre.0.listed pre.1 pre.2) (c.loop-i.invariant.among c.in-Some.i c.in-Some.ensures.1) in
-    let first = found_numbers pre.0.listed _ c.with_way-lines.ensures (omega (arith, pre.1, few)) in
+    let first = found_numbers pre.0.listed _ c.with_way-numbers.ensures (omega (arith, pre.1, few)) in
     let second = found_numbers pre.0.listed _ c.with_way-others.ensures (omega (arith, pre.2, few)) in
     (c.loop-i.invariant.going.site, first, second)
-
-pub returns-then-not-rule7_each : goal.returns-then-not-rule7_each
-returns-then-not-rule7_each c =
-    passing_lost c.loop-i.invariant c.in-Some.i _ _
-    c.rule7_each.result
-    (simp (c.with_way-lines.ensures, c.with_way-others.ensures) at c.rule7_each.ensures) c.if-not-rule7_each.true-raw
 
 pub loop-i-smaller : goal.loop-i-smaller
 loop-i-smaller c = let taken = c.in-Some.ensures in passing_less c.loop-i.invariant c.in-Some.i taken.1 taken.3
@@ -45,8 +34,7 @@ pub loop-i-preserved : goal.loop-i-preserved
 loop-i-preserved c =
     let taken = c.in-Some.ensures in
     passing_next c.loop-i.invariant c.in-Some.i _ _
-    c.rule7_each.result
-    (simp (c.with_way-lines.ensures, c.with_way-others.ensures) at c.rule7_each.ensures) taken.1 taken.3 (λ i. steady_each _ _ _ _) c.if-not-rule7_each.false-raw
+    (simp (c.with_way-numbers.ensures, c.with_way-others.ensures) at c.in_ok-rule7_each.ensures) taken.1 taken.3 (λ i. steady_each _ _ _ _)
 
 pub returns : goal.returns
 returns c =

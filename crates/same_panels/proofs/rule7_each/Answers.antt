@@ -1,20 +1,7 @@
 -- `rule7_each` meets its contract: rule 7 is seen to of each line that is not left. The measure is the set of those left, as a number. Assumes nothing.
-use mathlib.Core.Path.{refl}
-use Rattle.moves.proofs.Passing.{passing_none, passing_lost, passing_next, passing_end, passing_less}
+use Rattle.moves.proofs.Passing.{passing_next, passing_end, passing_less}
 use Rattle.same_panels.proofs.Visiting.{steady_beside}
 use Rattle.same_panels.proofs.rule7_each.Goals as goal
-
-pub loop-n-init : goal.loop-n-init
-loop-n-init c = passing_none c.requires.0 refl
-
-pub rule7_beside-requires : goal.rule7_beside-requires
-rule7_beside-requires c =
-    (c.loop-n.invariant.going.site, c.requires.1 c.in-Some.n (c.loop-n.invariant.among c.in-Some.n c.in-Some.ensures.1), c.requires.2)
-
-pub returns-then-not-rule7_beside : goal.returns-then-not-rule7_beside
-returns-then-not-rule7_beside c =
-    passing_lost c.loop-n.invariant c.in-Some.n _ _
-    c.rule7_beside.result c.rule7_beside.ensures c.if-not-rule7_beside.true-raw
 
 pub loop-n-smaller : goal.loop-n-smaller
 loop-n-smaller c = let taken = c.in-Some.ensures in passing_less c.loop-n.invariant c.in-Some.n taken.1 taken.3
@@ -22,8 +9,7 @@ loop-n-smaller c = let taken = c.in-Some.ensures in passing_less c.loop-n.invari
 pub loop-n-preserved : goal.loop-n-preserved
 loop-n-preserved c =
     let taken = c.in-Some.ensures in
-    passing_next c.loop-n.invariant c.in-Some.n _ _
-    c.rule7_beside.result c.rule7_beside.ensures taken.1 taken.3 (λ n. steady_beside _ _ _ _) c.if-not-rule7_beside.false-raw
+    passing_next c.loop-n.invariant c.in-Some.n _ _ c.in_ok-rule7_beside.ensures taken.1 taken.3 (λ n. steady_beside _ _ _ _)
 
 pub returns : goal.returns
 returns c = let p = c.loop-n.invariant in λ ks fill. (p.going.gone ks fill, passing_end p c.in_default.ensures.0)

@@ -7,7 +7,7 @@ use Rattle.same_panels.specs.Visits.{Unlisted}
 use Rattle.same_panels.proofs.rule7_first_beside.Given as goal
 
 abbrev pub invariant-loop-o : goal.invariant-loop-o
-invariant-loop-o l = Counting (Keeping rules7 l.v) l.v l.count l.words l.found (λ o. Unlisted l.v (numbered l.words l.n) (numbered l.words o)) l.o l.initial.cells l.initial.marks l.cells l.marks
+invariant-loop-o l = Counting (Keeping rules7 l.lines.boards) l.lines.boards l.lines.count l.lines.words.now l.lines.index.now (λ o. Unlisted l.lines.boards (numbered l.lines.words.now l.n) (numbered l.lines.words.now o)) l.o l.initial.cells l.initial.marks l.cells l.marks
 
 abbrev pub decreases-loop-o : goal.decreases-loop-o
-decreases-loop-o l = l.count - l.o
+decreases-loop-o l = l.lines.count - l.o

@@ -1,40 +1,29 @@
--- `ways_match` meets its contract: each pair of ways that was passed has E. The measure is the ways left. Assumes nothing.
+-- `ways_match` meets its contract: each pair of ways that was passed has E. Assumes nothing.
+use borrow.Author.Rules.{rules}
+use mathlib.Core.Path.{◌∙◌}
+use mathlib.Core.List.{[], ◌∷◌}
+use lib.ListN.{length-append}
 use native.Mathlib.Omega.{arith}
-use borrow.Author.Count.{below_none, below_more}
-use Rattle.rules.proofs.Sets.{single_small}
-use Rattle.rules.proofs.Rules.{same_small}
-use Rattle.same_panels.proofs.Matching.{pair_inside, paired_not, paired_all, pairs}
+use borrow.Author.Count.{below_more}
+use Rattle.std.proofs.lemmas.Slice.Zip.{zip_turn, zip_end}
+use Rattle.same_panels.proofs.Matching.{paired_not, paired_all, pairs}
 use Rattle.same_panels.proofs.ways_match.Goals as goal
 
-pub loop-i-init : goal.loop-i-init
-loop-i-init c = (omega arith, below_none _)
+pub returns-then-is_empty : goal.returns-then-is_empty
+returns-then-is_empty c =
+    let turn = zip_turn c.args.ways.now c.args.others.now _ _ _ c.next.new.self _ (search rules) (search rules) c.loop-way.yielded_by _ c.in-Some.is c.next.ensures.steps in
+    paired_not c.requires.1 turn.0 c.args.cells.now (c.from.ensures ∙ turn.2 0)
+    (c.from-in-loop-way.ensures ∙ turn.3 0) c.cell.ensures c.bitand.ensures c.is_empty.ensures c.if-is_empty.true
 
-pub pair_place-k-requires : goal.pair_place-k-requires
-pair_place-k-requires c = let pre = c.requires in (pre.0.boards, pre.1, c.loop-i-test.true)
-
-pub bounds-cells-k : goal.bounds-cells-k
-bounds-cells-k c =
-    let pre = c.requires in
-    pair_inside pre.1 c.loop-i-test.true c.pair_place-k.ensures pre.0
-
-pub meet-requires : goal.meet-requires
-meet-requires c = (c.requires.0.table.small _, single_small same_small)
-
-pub returns-then-meet-eq0 : goal.returns-then-meet-eq0
-returns-then-meet-eq0 c =
-    paired_not c.requires.1 c.loop-i-test.true c.pair_place-k.ensures c.args.cells.now c.meet.ensures c.if-meet-eq0.true
-
-pub loop-i-smaller : goal.loop-i-smaller
-loop-i-smaller c = omega arith
-
-pub loop-i-preserved : goal.loop-i-preserved
-loop-i-preserved c = (
-  omega arith,
-  below_more _ _ c.loop-i.invariant.1
-      (pairs c.requires.1 c.loop-i-test.true c.pair_place-k.ensures c.args.cells.now c.meet.ensures c.if-meet-eq0.false),
-)
+pub loop-way-preserved : goal.loop-way-preserved
+loop-way-preserved c =
+    let turn = zip_turn c.args.ways.now c.args.others.now _ _ _ c.next.new.self _ (search rules) (search rules) c.loop-way.yielded_by _ c.in-Some.is c.next.ensures.steps in
+    let more = below_more _ _ c.loop-way.invariant (pairs c.requires.1 turn.0 c.args.cells.now (c.from.ensures ∙ turn.2 0)
+    (c.from-in-loop-way.ensures ∙ turn.3 0) c.cell.ensures c.bitand.ensures c.is_empty.ensures c.if-is_empty.false) in
+    λ k h. more k (omega (arith, length-append c.loop-way.yielded ((c.in-Some.field-0-0, c.in-Some.field-0-1) ∷ []), h))
 
 pub returns : goal.returns
 returns c =
+    let end = zip_end c.args.ways.now c.args.others.now _ _ _ c.next.new.self _ (search rules) (search rules) c.loop-way.yielded_by c.in-None.is c.next.ensures.steps in
     paired_all c.args.v c.args.cells.now c.args.ways.now c.args.others.now
-    (λ i h. c.loop-i.invariant.1 i (omega arith))
+    (λ i h. c.loop-way.invariant i (omega (arith, end, c.requires.1.same, h)))

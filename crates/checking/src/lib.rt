@@ -16,7 +16,6 @@ use relations::RelationSet;
 use tables::{read_cells, room};
 
 // Tells whether each cell has one relation.
-#[tactic(auto, using(crate::proofs::Checking::single_none))]
 fn decided(cells: &[RelationSet]) -> bool
     ensures { result ≡ each_of (λ x. nat_eq (size x) 1) cells.now }
 {

@@ -42,12 +42,11 @@ drained_ended v ks t w n (Ok _) k =
     record { table = k.fit.ready.table; filled = k.fit.filled; inside = k.inside; keeps = k.keeps; kept = k.idle }
 drained_ended v ks t w n (Err _) f = f
 
-pub drain_determined : OfTwo 4 drain_kinds.ps drain_kinds.r drain.Asked drain.Learnt
-    (λ κs x y d e. SameEnd x y d.1.1.1.1.0.now e.1.1.1.1.0.now)
+pub drain_determined : OfTwo 4 drain_kinds.ps drain_kinds.r drain.Asked drain.Learnt (λ κs x y d e. SameEnd x y d.1.0.now e.1.0.now)
 drain_determined κs a asked x y d e p q =
-    let v = a.0 in
+    let v = a.0.now.boards in
     let (ks, fill) = asked.0.listed.lines.0 in
-    let t = a.1.1.1.1.0.now in
-    one_end (Again v ks) v t d.1.1.1.1.0.now e.1.1.1.1.0.now x y
-    (drained_ended v ks t d.1.1.1.1.0.now d.1.1.1.1.1.0.now x (p ks fill))
-    (drained_ended v ks t e.1.1.1.1.0.now e.1.1.1.1.1.0.now y (q ks fill))
+    let t = a.1.0.now in
+    one_end (Again v ks) v t d.1.0.now e.1.0.now x y
+    (drained_ended v ks t d.1.0.now d.1.1.0.now x (p ks fill))
+    (drained_ended v ks t e.1.0.now e.1.1.0.now y (q ks fill))

@@ -1,10 +1,13 @@
 -- `check_table` meets its contract: it is what the work on a copy comes to. Assumes nothing.
 use mathlib.Core.Path.{sym}
-use Rattle.tables.proofs.Shapes.{room_fits, room_taken}
+use native.Mathlib.Omega.{arith}
+use Rattle.tables.proofs.Shapes.{square_small, room_taken}
 use Rattle.checking.proofs.check_table.Goals as goal
 
-pub slice_bounds-cells-end : goal.slice_bounds-cells-end
-slice_bounds-cells-end c = room_fits c.requires.ready c.room-cells.ensures
+pub whole_as_front-check_by_copy : goal.whole_as_front-check_by_copy
+whole_as_front-check_by_copy c =
+    let few = square_small c.args.h.boards c.requires.ready.boards in
+    (omega (arith, few, c.requires.ready.table.cells), omega arith)
 
 pub slice_bounds-check_by_copy-end : goal.slice_bounds-check_by_copy-end
 slice_bounds-check_by_copy-end c = sym (room_taken c.requires.ready c.room-cells.ensures)

@@ -16,13 +16,13 @@ offset_bounds-words-kinds_at c =
     let d = described c.args.words.now c.args.h c.requires.0.header in
     record { fits = omega (arith, d.1.within, c.well_formed.1.0.1) }
 
-pub slice_bounds-drain-count : goal.slice_bounds-drain-count
-slice_bounds-drain-count c =
+pub slice_bounds-lines-count : goal.slice_bounds-lines-count
+slice_bounds-lines-count c =
     let d = described c.args.words.now c.args.h c.requires.0.header in
     d.1.within
 
-pub slice_bounds-drain-start : goal.slice_bounds-drain-start
-slice_bounds-drain-start c =
+pub slice_bounds-lines-start : goal.slice_bounds-lines-start
+slice_bounds-lines-start c =
     let d = described c.args.words.now c.args.h c.requires.0.header in
     d.1.within
 

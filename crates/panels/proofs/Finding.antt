@@ -1,8 +1,8 @@
 -- Rule 6 of the kind lines that read the cell of two boards: which of them need no visit, and that the others are found by board. Assumes nothing.
 use mathlib.Core.Path.{◌≡◌, sym, subst}
+use mathlib.Core.Bool.{false}
 use Rattle.std.specs.Prelude.{Result, Ok}
 use mathlib.Core.Logic.{⊎_elim}
-use mathlib.Core.Bool.{false}
 use mathlib.Core.List.{List, Memᴰ}
 use Prim.Native.Nat.{ℕ, ◌+◌, ◌*◌, ◌<◌}
 use lib.Dec.{T, eqb}
@@ -79,6 +79,7 @@ module _ {v count : ℕ} {ws xs t m : List ℕ} (site : Site v count ws xs t m) 
           let (j, o, q) = panel_found site.listed ks fill k l (board_few site.table ha) d in
           (subst (λ (k : KindLine). Fed v k b n w) q (f j o)).ways i h
 
+  -- as each of the kind lines that fill the words is visited
   pub went_panel : (ks : List KindLine) → Kinds v count ws ks → cell v t a b ≡ 2 → (lines : ℕ) → lines ≡ with_panel xs a → (w n : List ℕ) (r : Result (Unit {0}) Emptied)
       → Went (Keeping rules6 v ks) v (FedEach v ws lines b) t m w n r → Went (Keeping rules6 v ks) v (FedFor v ks a b) t m w n r
   went_panel ks fill e lines d w n r g =

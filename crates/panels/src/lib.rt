@@ -41,6 +41,8 @@ fn reaching(v: usize, ways: &[u16], z: usize, from: usize, cells: &[RelationSet]
 
 // Rule 6 of one kind line, for one board z: if z is below the panel, it is at or below one of the ways. It sees to the rule, or was left
 // at an empty cell.
+// Stays: cells and marks are two parameters, here and below; in one struct each contract and loop would say again that the lent slices are the same, which is no
+// plainer. The boards, the words and the line are passed each by itself, so that a line is read once for all boards.
 fn rule6_at(
     v: usize,
     words: &[u16],

@@ -32,6 +32,7 @@ fn ways_match(v: usize, ways: &[u16], others: &[u16], cells: &[RelationSet]) -> 
     true
 }
 
+// Stays: a table and its list are two parameters here and below: in one struct each contract and loop would say again that the lent slices are the same ones.
 // Strikes all but same from the cells of each two ways in the same place. Tells whether one of them is empty then.
 fn match_ways(
     v: usize,
@@ -51,6 +52,7 @@ fn match_ways(
     Ok(())
 }
 
+// Stays: v and words beside the two lines, here and in `rule7_unlisted`: their kind lines as one value would bring a count and an index that nothing here reads.
 // Rule 7 of two kind lines: if their panels are the same, code and ways agree. Lines of one code have as many ways. Tells whether an empty cell was met, as
 // all below do.
 fn rule7(

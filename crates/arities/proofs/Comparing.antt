@@ -1,7 +1,6 @@
 -- Kind lines compared with those before them, as the code walks along them. Assumes nothing.
 use mathlib.Core.Path.{◌≡◌, refl, sym, ap, ap₂, ◌∙◌, subst}
 use mathlib.Core.Bool.{Bool, true, false, not, ◌||◌}
-use mathlib.Core.Logic.{◌⊎◌, inl, inr, ⊎_elim}
 use mathlib.Core.List.{List, [], ◌∷◌, ◌++◌, append_assoc}
 use Prim.Native.Nat.{ℕ, ◌+◌, ◌-◌, ◌≤◌, ◌<◌}
 use native.Mathlib.Nat.{le_refl}
@@ -17,7 +16,6 @@ use Rattle.rules.specs.Descriptions as descriptions
 use Rattle.rules.proofs.Tests.{true_T}
 use Rattle.rules.proofs.Members.{some_of_more}
 use Rattle.rules.proofs.Descriptions.{section_counted}
-use Rattle.rules.proofs.KindWords.{section_words}
 use Rattle.rules.proofs.Arities.{arity_none, arity_more, first_disagreeing_lem, none_disagreeing}
 use Rattle.kinds.specs.declared.KindLine.{KindLine}
 use Rattle.kinds.specs.Lines.{kind_at, ways_at, line_at}

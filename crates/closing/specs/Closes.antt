@@ -1,5 +1,5 @@
 -- What closing a working copy of a table comes to. Assumes nothing.
-use Rattle.std.specs.Prelude.{◌≡◌, true, false, List, ◌++◌, ℕ, ◌+◌, ◌*◌, ◌-◌, T, length, take, drop, Result, Ok, Err}
+use Rattle.std.specs.Prelude.{◌≡◌, List, ◌++◌, ℕ, ◌+◌, ◌*◌, ◌-◌, T, length, take, drop, Result, Ok, Err}
 use Rattle.rules.specs.Descriptions.{Sheet, good, read}
 use Rattle.rules.specs.Tables.{Inside, emptied, total}
 use Rattle.rules.specs.Closed.{Largest}

@@ -1,7 +1,7 @@
 // An expression, in prefix words, put into a text as people type it: with only the parentheses that are needed, each symbol after a blank.
 #![tactic(auto)]
 
-ghost use Rattle.std.specs.Prelude.{◌≡◌, ◌+◌, ◌<◌, drop};
+ghost use Rattle.std.specs.Prelude.{◌≡◌, ◌<◌};
 ghost use Rattle.puts.specs.Texts.{HasRoom, Put};
 ghost use Rattle.typed.specs.Symbols.{word};
 ghost use Rattle.typed.specs.Writing.{spaced};
@@ -46,29 +46,30 @@ fn put_paren(out: &mut Writer, needed: bool, paren: u8)
     }
 }
 
-// Puts the expression that begins at a place of the words, in parentheses unless it binds at least as tightly as the level says: 0 is any
-// expression, 1 is one without `or` outside parentheses, and 2 an operand of `not` and `inv`. Answers the place after its words.
-pub fn put_expression(words: &[u16], at: usize, level: u8, out: &mut Writer) -> usize
-    requires { Begins (drop at words.now) × HasRoom out.old (bytes level (drop at words.now)) }
-    ensures after { result ≡ at + extent (drop at words.now) }
-    ensures put { Put out.old (bytes level (drop at words.now)) out.new }
+// Puts the expression that the words begin with, in parentheses unless it binds at least as tightly as the level says: 0 is any expression, 1 is one
+// without `or` outside parentheses, and 2 an operand of `not` and `inv`. Answers how many words it has.
+// Stays: the levels are numbers, since the right operand's is one more than the left's; an enum is no plainer.
+pub fn put_expression(words: &[u16], level: u8, out: &mut Writer) -> usize
+    requires { Begins words.now × HasRoom out.old (bytes level words.now) }
+    ensures extent { result ≡ extent words.now }
+    ensures put { Put out.old (bytes level words.now) out.new }
 {
-    let code = words[at];
-    let first = at + 1;
+    let code = words[0];
+    let operands = &words[1..];
     if code < OR {
         put_word(out, code);
-        return first;
+        return 1;
     }
     if AND < code {
         put_word(out, code);
-        return put_expression(words, first, TIGHTEST, out);
+        return 1 + put_expression(operands, TIGHTEST, out);
     }
     // `or` binds loosest, then `and`. The left operand must bind at least as tightly as the word that joins the two, and the right one tighter.
     let own = (code - OR) as u8;
     put_paren(out, own < level, b'(');
-    let second = put_expression(words, first, own, out);
+    let left = put_expression(operands, own, out);
     put_word(out, code);
-    let after = put_expression(words, second, own + 1, out);
+    let right = put_expression(&operands[left..], own + 1, out);
     put_paren(out, own < level, b')');
-    after
+    1 + left + right
 }

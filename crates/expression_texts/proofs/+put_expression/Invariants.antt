@@ -1,6 +1,5 @@
-use Prim.Native.Nat.{◌-◌}
 use lib.ListN.{length}
 use Rattle.expression_texts.proofs.+put_expression.Given as goal
 
 abbrev pub decreases-put_expression : goal.decreases-put_expression
-decreases-put_expression l = length l.words.now - l.at
+decreases-put_expression l = length l.words.now

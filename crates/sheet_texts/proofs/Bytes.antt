@@ -45,29 +45,30 @@ kind_text p c ys =
 -- ---- of the line that some words begin with
 
 module _ {ws : List ℕ} where
-  -- the expression that stands after the length of a relation line
-  pub begins : HasLine IsRelation ws → Begins (drop 3 ws)
-  begins l =
-      record {
-        phrase = l.such.phrase;
-        rest = drop (get_or ws 2 0) (drop 3 ws);
-        words = sym (take-append-drop (get_or ws 2 0) (drop 3 ws)) ∙ ap (λ (es : List ℕ). es ++ drop (get_or ws 2 0) (drop 3 ws)) l.such.words;
-      }
+  -- the expression that stands after the length of a relation line, where us are the words after the length
+  module _ (l : HasLine IsRelation ws) {us : List ℕ} (e : us ≡ drop 3 ws) where
+    pub begins : Begins us
+    begins =
+        record {
+          phrase = l.such.phrase;
+          rest = drop (get_or ws 2 0) us;
+          words = sym (take-append-drop (get_or ws 2 0) us) ∙ ap (λ (es : List ℕ). es ++ drop (get_or ws 2 0) us) (ap (take (get_or ws 2 0)) e ∙ l.such.words);
+        }
 
-  same_phrase : (l : HasLine IsRelation ws) → phrase_of (listed ws) ≡ phrase_of (drop 3 ws)
-  unfolding begins
-  same_phrase l = ap phrase_of l.such.words ∙ phrase_of_written l.such.phrase ∙ sym (found (begins l))
+    same_phrase : phrase_of (listed ws) ≡ phrase_of us
+    unfolding begins
+    same_phrase = ap phrase_of l.such.words ∙ phrase_of_written l.such.phrase ∙ sym (found begins)
 
-  -- it has as many words as the length says
-  pub expression_words : HasLine IsRelation ws → extent (drop 3 ws) ≡ get_or ws 2 0
-  unfolding begins
-  expression_words l =
-      ap (λ (e : Phrase). length (written e)) (found (begins l)) ∙ ap length (sym l.such.words)
-      ∙ length-take-le (get_or ws 2 0) (drop 3 ws) (omega (arith, l.inside, length-drop 3 ws))
+    -- it has as many words as the length says
+    pub expression_words : extent us ≡ get_or ws 2 0
+    unfolding begins
+    expression_words =
+        ap (λ (e : Phrase). length (written e)) (found begins) ∙ ap length (sym l.such.words)
+        ∙ length-take-le (get_or ws 2 0) (drop 3 ws) (omega (arith, l.inside, length-drop 3 ws))
 
-  pub relation_front : HasLine IsRelation ws → {p q : ℕ} → p ≡ get_or ws 0 0 → q ≡ get_or ws 1 0
-      → front_text relation_typing ws ≡ decimal p ++ (bytes 0 (drop 3 ws) ++ last_text q)
-  relation_front l {p} {q} d e = relation_text (get_or ws 0 0) (get_or ws 1 0) (listed ws) ∙ rw (d, e, same_phrase l)
+    pub relation_front : {p q : ℕ} → p ≡ get_or ws 0 0 → q ≡ get_or ws 1 0
+        → front_text relation_typing ws ≡ decimal p ++ (bytes 0 us ++ last_text q)
+    relation_front {p} {q} d f = relation_text (get_or ws 0 0) (get_or ws 1 0) (listed ws) ∙ rw (d, f, same_phrase)
 
 -- the ways of a kind line, as code lends them: n is the length of the line
 abbrev pub ways_lent : List ℕ → ℕ → List ℕ

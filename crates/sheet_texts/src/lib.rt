@@ -75,9 +75,9 @@ fn put_relation(words: &[u16], out: &mut Writer) -> usize
     ensures put { Put out.old (front_text relation_typing words.now) out.new }
 {
     out.put_number(usize::from(words[0]));
-    let after = put_expression(words, LINE_WORDS, 0, out);
+    let expression = put_expression(&words[LINE_WORDS..], 0, out);
     put_last(out, usize::from(words[1]));
-    after
+    LINE_WORDS + expression
 }
 
 // Puts a kind line up to its ways: the panel and the code.

@@ -10,6 +10,7 @@ ghost use Rattle.expression_texts.specs.Puts.{Begins, bytes, extent, marked};
 use puts::Writer;
 
 // The codes of the words that join two operands: those before them name a relation, and those after them have one operand.
+// Stays: the codes are numbers, the words of a description as they are lent; an enum would be made of each only to be matched once.
 const OR: u16 = 4;
 
 const AND: u16 = 5;

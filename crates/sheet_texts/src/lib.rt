@@ -25,6 +25,7 @@ const MOST_KIND: usize = 2 + 2 + 6 + 2 + 3 * MOST_WAYS + 2 + 1;
 pub const MOST_TEXT: usize = MOST_FIRST + MOST_LINES * MOST_RELATION + MOST_KINDS * MOST_KIND;
 
 // Room for the text of any good description.
+// Stays: no heap, so the room has the size of the longest text.
 pub fn text_room() -> [u8; MOST_TEXT]
     ensures { result ≡ replicate most_text 0 }
 {

@@ -145,20 +145,13 @@ pub fn put_sheet(words: &[u16], text: &mut [u8]) -> usize
     requires { Good words.now × (most_text ≤ length text.old) }
     ensures { PutsSheet words.now text.old text.new result }
 {
-    let mut out = Writer::new(text);
+    let v = usize::from(words[0]);
+    let relations = usize::from(words[1]);
+    let kinds = usize::from(words[2]);
     let first_kind = usize::from(words[4]);
-    put_first(&mut out, usize::from(words[0]));
-    put_lines(
-        Sort::Relation,
-        usize::from(words[1]),
-        &words[HEADER_WORDS..],
-        &mut out,
-    );
-    put_lines(
-        Sort::Kind,
-        usize::from(words[2]),
-        &words[first_kind..],
-        &mut out,
-    );
+    let mut out = Writer::new(text);
+    put_first(&mut out, v);
+    put_lines(Sort::Relation, relations, &words[HEADER_WORDS..], &mut out);
+    put_lines(Sort::Kind, kinds, &words[first_kind..], &mut out);
     out.at()
 }

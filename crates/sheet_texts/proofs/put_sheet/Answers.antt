@@ -1,5 +1,5 @@
 -- `put_sheet` meets its contract: the first line, the relation lines and the kind lines, one after the other. Assumes nothing.
-use mathlib.Core.Path.{refl, sym}
+use mathlib.Core.Path.{sym}
 use native.Mathlib.Omega.{arith}
 use borrow.Author.Rules.{rules}
 use Rattle.puts.proofs.Putting.{putting, fits_as, put_as}
@@ -24,7 +24,7 @@ pub put_first-requires : goal.put_first-requires
 put_first-requires c =
     let ws = c.args.words.now in
     let laid = good_words_laid ws c.requires.0 c.type_inv.words in
-    let text = (laid_parts ws laid c.from.ensures refl refl c.from-first_kind.ensures).text in
+    let text = (laid_parts ws laid c.from-v.ensures c.from-relations.ensures c.from-kinds.ensures c.from-first_kind.ensures).text in
     let room = fits_as text (laid_room ws laid c.new-out.result c.new-out.ensures.at_front (rw c.new-out.ensures.unchanged c.requires.1)) in
     grind putting
 
@@ -40,7 +40,7 @@ pub put_lines-requires : goal.put_lines-requires
 put_lines-requires c =
     let ws = c.args.words.now in
     let laid = good_words_laid ws c.requires.0 c.type_inv.words in
-    let parts = laid_parts ws laid c.from.ensures c.from-2.ensures refl c.from-first_kind.ensures in
+    let parts = laid_parts ws laid c.from-v.ensures c.from-relations.ensures c.from-kinds.ensures c.from-first_kind.ensures in
     let room = fits_as parts.text (laid_room ws laid c.new-out.result c.new-out.ensures.at_front (rw c.new-out.ensures.unchanged c.requires.1)) in
     (parts.relations, grind putting)
 
@@ -58,7 +58,7 @@ pub put_lines-requires-2 : goal.put_lines-requires-2
 put_lines-requires-2 c =
     let ws = c.args.words.now in
     let laid = good_words_laid ws c.requires.0 c.type_inv.words in
-    let parts = laid_parts ws laid c.from.ensures c.from-2.ensures c.from-3.ensures c.from-first_kind.ensures in
+    let parts = laid_parts ws laid c.from-v.ensures c.from-relations.ensures c.from-kinds.ensures c.from-first_kind.ensures in
     let room = fits_as parts.text (laid_room ws laid c.new-out.result c.new-out.ensures.at_front (rw c.new-out.ensures.unchanged c.requires.1)) in
     (parts.kinds, grind putting)
 
@@ -66,5 +66,5 @@ pub returns : goal.returns
 returns c =
     let ws = c.args.words.now in
     let laid = good_words_laid ws c.requires.0 c.type_inv.words in
-    let parts = laid_parts ws laid c.from.ensures c.from-2.ensures c.from-3.ensures c.from-first_kind.ensures in
+    let parts = laid_parts ws laid c.from-v.ensures c.from-relations.ensures c.from-kinds.ensures c.from-first_kind.ensures in
     laid_put ws laid c.new-out.result c.put_lines-2.new.out c.new-out.ensures.unchanged c.new-out.ensures.at_front (put_as (sym parts.text) (grind putting)) (search rules) c.at.ensures

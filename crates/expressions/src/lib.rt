@@ -25,6 +25,7 @@ const SETS: [RelationSet; CODES] = [
 ];
 
 // The codes of the operators: union and intersection have two operands, complement and inverse one.
+// Stays: numbers and not an enum, which is no plainer here: a word is asked for how many operands its code has, in one test of a bit or one entry of a table.
 const UNION: usize = 4;
 
 const INTERSECTION: usize = 5;
@@ -70,8 +71,8 @@ fn apply_two(word: usize, x: RelationSet, y: RelationSet) -> RelationSet
     if word == UNION { x | y } else { x & y }
 }
 
-// Reads the expression at the front of the words: an operator is followed by its operands, each a whole expression. Gives its set and the number of words after it;
-// or, where there is none, the number of words from the first that goes on with none. Where an operand fails, the whole does.
+// Reads the expression at the front of the words: an operator is followed by its operands, each a whole expression. Gives its set and the number of words
+// after it; or, where there is none, the number of words from the first that goes on with none. Where an operand fails, the whole does.
 pub fn evaluate(words: &[u16]) -> Result<(RelationSet, usize), usize>
     requires { length words.now ≤ most_expression_words }
     ensures { result ≡ expression_found (expression words.now) }
@@ -119,8 +120,8 @@ fn operands_of(counts: &[u8; CODES], word: usize) -> u32
     counts[word] as u32
 }
 
-// Tells whether the words are one whole expression, without its set, or the number of words from the first that does not go on with one. It counts the operands that
-// are still needed: a code is one of these, and needs its own.
+// Tells whether the words are one whole expression, without its set, or the number of words from the first that does not go on with one. It counts the
+// operands that are still needed: a code is one of these, and needs its own.
 #[tactic(auto, using(crate::proofs::Scanning::needing_none, crate::proofs::Scanning::needing_some))]
 pub fn scan(words: &[u16]) -> Result<(), usize>
     requires { length words.now ≤ most_expression_words }

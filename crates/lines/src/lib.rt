@@ -18,8 +18,8 @@ pub struct RelationLine {
     pub rest: usize,
 }
 
-// Tests all of the relation line at the front of the words but its expression, for boards below v: its length, that the words hold it, and its boards. Gives the end
-// of the line.
+// Tests all of the relation line at the front of the words but its expression, for boards below v: its length, that the words hold it, and its boards.
+// Gives the end of the line.
 fn front(v: usize, words: &[u16]) -> Result<usize, Refusal>
     ensures { FrontTells v words.now result }
 {

@@ -1,4 +1,5 @@
 // The two sections of lines, each filled exactly by its lines. Each has a loop of its own, which takes less time than one loop for both sorts of line.
+// Stays: one function for both is no plainer, as its bound has to tell what a line means, by a type of its own, and that a refusal lies within the words.
 ghost use Rattle.std.specs.Prelude.{◌≡◌};
 ghost use Rattle.rules.specs.Descriptions.{next, relation_line, kind_line, section, agreed};
 ghost use Rattle.sheet.specs.Found.{section_found, end_found};

@@ -73,7 +73,11 @@ fn level_row(
 
 // Rule 2 of every two boards, and the first list: every pair of which something is known is on it. Tells whether a cell is empty.
 #[tactic(auto, using(crate::proofs::Leveling::sides_lost, crate::proofs::Leveling::diagonal_lost))]
-pub fn level_all(v: usize, cells: &mut [RelationSet], marks: &mut [NumberSet]) -> Result<(), Emptied>
+pub fn level_all(
+    v: usize,
+    cells: &mut [RelationSet],
+    marks: &mut [NumberSet],
+) -> Result<(), Emptied>
     requires { Ready v cells.old × Marks v marks.old × Selves v cells.old }
     ensures { Leveled v cells.old cells.new marks.new result }
 {

@@ -1,10 +1,10 @@
 -- A try as the code makes it: a strike at (p, q) of v boards, closed by the list. Assumes nothing.
 use mathlib.Core.Path.{◌≡◌, refl, sym, ap, ◌∙◌, subst}
-use mathlib.Core.Bool.{Bool, true, not}
 use mathlib.Core.List.{List}
 use Prim.Native.Nat.{ℕ, ◌+◌, ◌*◌, ◌^◌, ◌≤◌, ◌<◌}
 use native.Mathlib.Omega.{arith}
 use borrow.Author.Tests.{ne_eqb}
+use Rattle.std.specs.Prelude.{Option, Some, None, Result, Ok}
 use lib.Dec.{T}
 use lib.ListN.{length, get_or, set, replicate}
 use lib.Seq.{get_or-set_same}
@@ -20,18 +20,19 @@ use Rattle.rules.proofs.Inside.{inside_trans}
 use Rattle.rules.proofs.Largest.{closing_largest, largest_unique}
 use Rattle.passes.specs.Passes.{Ready}
 use Rattle.orders.specs.Orders.{pick}
-use Rattle.moves.specs.Moves.{Marks, Mutual, Struck, Moved}
+use Rattle.moves.specs.declared.Emptied.{Emptied}
+use Rattle.moves.specs.Moves.{Marks, Mutual, told_of, Struck, Moved}
 use Rattle.moves.proofs.Moving.{strike_moved, strike_within, moved_as}
 use Rattle.rounds.proofs.Owing.{owed_moved}
 use Rattle.rounds.proofs.Draining.{empty_list}
 use Rattle.closing.specs.Closes.{Listing, ClosesListed}
 use Rattle.closing.proofs.Closings.{closed_listing}
 use Rattle.choosing.specs.declared.pairs.Pair.{Pair}
-use Rattle.choosing.specs.declared.choices.Next.{Next}
-use Rattle.choosing.specs.declared.choices.Next.TheVariants.{Try, Found, Spent}
+use Rattle.choosing.specs.declared.Next.{Next}
+use Rattle.choosing.specs.declared.Next.TheVariants.{Try, Found, Spent}
 use Rattle.choosing.specs.Pairs.{pair_cell, IsPair}
-use Rattle.choosing.specs.Choices.{Bytes, NextOpen, Standing, Restored}
-use Rattle.choosing.specs.Standings.{Whole, Due}
+use Rattle.choosing.specs.Choices.{PairSets, NextOpen, Standing, Restored}
+use Rattle.choosing.specs.Standings.{onward, backward, Whole, Due}
 use Rattle.choosing.specs.Tries.{retreats, relists, Tried}
 use Rattle.choosing.proofs.Walking.{pair_board, pair_place, pair_within, place_cell}
 use Rattle.choosing.proofs.Standing.{inside_set, choice_in, standing_at}
@@ -66,12 +67,12 @@ module _ (s : Sheet) {ord : List ℕ} (order : Order ord) (first : List ℕ) {v 
     pub try_within : at.q < v
     try_within = subst (λ (n : ℕ). at.q < n) (sym boards) try.within
 
-    pub try_bytes : Bytes v cs
-    try_bytes = subst (λ (n : ℕ). Bytes n cs) (sym boards) try.bytes
+    pub try_sets : PairSets v cs
+    try_sets = subst (λ (n : ℕ). PairSets n cs) (sym boards) try.sets
 
-    pub try_byte : at.index < length cs
-    try_byte =
-        let l : length (places s.boards) ≤ length cs = try.bytes.room in
+    pub try_place : at.index < length cs
+    try_place =
+        let l : length (places s.boards) ≤ length cs = try.sets.room in
         let h : at.index < length (places s.boards) = pair_within try.pair try.within in
         omega arith
 
@@ -90,7 +91,7 @@ module _ (s : Sheet) {ord : List ℕ} (order : Order ord) (first : List ℕ) {v 
     pub try_standing : (n : ℕ) → n ≤ at.index → Standing v ord cs first n
     try_standing n l =
         subst (λ (m : ℕ). Standing m ord cs first n) (sym boards)
-        (standing_at s order first cs try.bytes.small (omega (arith, pair_within try.pair try.within)) try.stands n l)
+        (standing_at s order first cs try.sets.small (omega (arith, pair_within try.pair try.within)) try.stands n l)
 
     -- the choice, struck from both sides
     module _ {x : ℕ} (picks : x ≡ pick ord (get_or cs at.index 0)) {l : List ℕ} (listing : Listing s l u) where
@@ -103,14 +104,14 @@ module _ (s : Sheet) {ord : List ℕ} (order : Order ord) (first : List ℕ) {v 
       abbrev Asked : List ℕ → Type 0
       Asked z = (cell v z at.p at.q lies_within x) × (cell v z at.q at.p lies_within converse (cell v z at.p at.q))
 
-      module _ {y k : List ℕ} {some : Bool} (r : Struck v at.p at.q x u l y k some) where
+      module _ {y k : List ℕ} {told : Result (Unit {0}) Emptied} (r : Struck v at.p at.q x u l y k told) where
         -- it leaves the relation that was chosen
-        struck : some ≡ true
+        struck : told ≡ Ok tt
         struck =
             let c = choice_in try.closes (tried_choice s order first cs u at try) in
             let e : x ≡ 2 ^ c.r = picks ∙ c.picks in
             r.told
-            ∙ ap not
+            ∙ ap told_of
             (ne_eqb _ _
             (shared (cell v u at.p at.q) x c.r c.small (subst (λ (j : ℕ). T (has (get_or u j 0) c.r)) (sym cell_place) c.member)
             (subst (λ (z : ℕ). T (has z c.r)) (sym e) (has_single c.r))))
@@ -165,15 +166,15 @@ module _ (s : Sheet) {ord : List ℕ} (order : Order ord) (first : List ℕ) {v 
           pub on_ready : Ready v w
           on_ready = record { boards = few; table = subst (λ (m : ℕ). Table m w) (sym boards) closed.largest.table }
 
-          pub goes_on : (from : ℕ) → from ≡ at.index + 1 → (ds : List ℕ) (next : Next) → NextOpen v w cs from ds next
-              → Tried s ord first at cs ds w next × relists s w n next
+          pub goes_on : (from : ℕ) → from ≡ at.index + 1 → (ds : List ℕ) (next : Option Pair) → NextOpen v w cs from ds next
+              → Tried s ord first at cs ds w (onward next) × relists s w n (onward next)
           goes_on from f ds next o = (
             try_on s order first cs u at try w (try_largest closed.largest) closed.fit.filled from f ds next (subst (λ (m : ℕ). NextOpen m w cs from ds next) boards o),
-            relisted next (closed_listing few' closed.largest.table closed.largest.closed closed.fit.filled closed.list),
+            relisted (onward next) (closed_listing few' closed.largest.table closed.largest.closed closed.fit.filled closed.list),
           )
 
-        pub goes_back : T (emptied (closing s y)) → (ds w n : List ℕ) (next : Next) → retreats v ord first at cs ds w n next
-            → Tried s ord first at cs ds w next × relists s w n next
+        pub goes_back : T (emptied (closing s y)) → (ds w n : List ℕ) (next : Option Pair) → retreats v ord first at cs ds w n next
+            → Tried s ord first at cs ds w (backward next) × relists s w n (backward next)
         goes_back f ds w n next b = (
           try_back s order first cs u at try clash ds w n next (subst (λ (m : ℕ). retreats m ord first at cs ds w n next) boards b),
           back next b,
@@ -190,7 +191,6 @@ module _ (s : Sheet) {ord : List ℕ} (order : Order ord) (first : List ℕ) {v 
                 let l = closed_listing few' whole.table whole.closed whole.filled (no_marks s.boards) in
                 record { fit = m.fit; list = m.list; owed = owed_moved m l.owed; steady = λ z i. l.steady z (inside_trans i m.inside) }
 
-            back : (next : Next) → retreats v ord first at cs ds w n next → relists s w n next
-            back (Try to) (b, e) = restored to e
-            back Found z = absurd z
-            back Spent z = tt
+            back : (next : Option Pair) → retreats v ord first at cs ds w n next → relists s w n (backward next)
+            back (Some to) (b, e) = restored to e
+            back None z = tt

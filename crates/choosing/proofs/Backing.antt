@@ -7,19 +7,20 @@ use native.Mathlib.Nat.{eq-or-lt_of_le}
 use native.Mathlib.Omega.{arith}
 use lib.ListN.{length, get_or, set, length-set}
 use lib.Seq.{get_or-set_same, get_or-set_other}
+use Rattle.std.proofs.lemmas.Grind.{get_or_default_zero}
 use Rattle.rules.specs.Relations.{set_limit}
 use Rattle.rules.specs.Search.{Order}
 use Rattle.orders.specs.Orders.{unpicked}
 use Rattle.orders.proofs.Picking.{unpicked_small}
 use Rattle.choosing.specs.declared.pairs.Pair.{Pair}
 use Rattle.choosing.specs.Pairs.{IsPair}
-use Rattle.choosing.specs.Choices.{Bytes, Back}
-use Rattle.choosing.proofs.Stepping.{bytes_set}
+use Rattle.choosing.specs.Choices.{PairSets, Back}
+use Rattle.choosing.proofs.Stepping.{sets_put}
 use Rattle.choosing.proofs.Walking.{pair_within}
 
--- From the pair i on it has come back to this one: the bytes up to it are as they were, and at the pairs after it nothing was left.
+-- From the pair i on it has come back to this one: the sets up to it are as they were, and at the pairs after it nothing was left.
 pub record Backing (v : ℕ) (ord cs : List ℕ) (i : ℕ) (ds : List ℕ) (at : Pair) : Type 0 where
-  pub bytes : Bytes v ds
+  pub sets : PairSets v ds
   pub cells : length ds ≡ length cs
   pub pair : IsPair v at
   pub within : at.q < v
@@ -27,36 +28,26 @@ pub record Backing (v : ℕ) (ord cs : List ℕ) (i : ℕ) (ds : List ℕ) (at :
   pub before : (m : ℕ) → m ≤ at.index → get_or ds m 0 ≡ get_or cs m 0
   pub failed : (m : ℕ) → at.index < m → m ≤ i → unpicked ord (get_or cs m 0) ≡ 0
 
-module _ {v : ℕ} {ord cs : List ℕ} {at : Pair} where
-  pub backing_start : Bytes v cs → IsPair v at → at.q < v → Backing v ord cs at.index cs at
-  backing_start b p h =
-      record {
-        bytes = b;
-        cells = refl;
-        pair = p;
-        within = h;
-        most = omega arith;
-        before = λ m l. refl;
-        failed = λ m l n. let z : ⊥ = omega arith in absurd z;
-      }
-
 module _ {v : ℕ} {ord cs : List ℕ} {i : ℕ} {ds : List ℕ} {at : Pair} (b : Backing v ord cs i ds at) where
   pub backing_room : at.index < length ds
-  backing_room = omega (arith, pair_within b.pair b.within, b.bytes.room)
+  backing_room = omega (arith, pair_within b.pair b.within, b.sets.room)
 
   pub backing_length : (x : ℕ) → length (set ds at.index x) ≡ length cs
   backing_length x = length-set ds at.index x ∙ b.cells
 
   -- what is left at this pair
-  module _ (order : Order ord) {left : ℕ} (is : left ≡ unpicked ord (get_or ds at.index 0)) where
-    left_was : left ≡ unpicked ord (get_or cs at.index 0)
-    left_was = is ∙ ap (unpicked ord) (b.before at.index (omega arith))
+  module _ (order : Order ord) {was left : ℕ} (read : was ≡ get_or ds at.index was) (is : left ≡ unpicked ord was) where
+    left_is : left ≡ unpicked ord (get_or ds at.index 0)
+    left_is = is ∙ ap (unpicked ord) (read ∙ get_or_default_zero ds at.index was backing_room)
 
-    -- the bytes stay sets
-    pub back_bytes : Bytes v (set ds at.index left)
-    back_bytes =
-        bytes_set at.index left b.bytes
-        (subst (λ (x : ℕ). x < set_limit) (sym is) (unpicked_small order (get_or ds at.index 0) (b.bytes.small at.index)))
+    left_was : left ≡ unpicked ord (get_or cs at.index 0)
+    left_was = left_is ∙ ap (unpicked ord) (b.before at.index (omega arith))
+
+    -- they stay sets
+    pub back_sets : PairSets v (set ds at.index left)
+    back_sets =
+        sets_put at.index left b.sets
+        (subst (λ (x : ℕ). x < set_limit) (sym left_is) (unpicked_small order (get_or ds at.index 0) (b.sets.small at.index)))
 
     left_here : get_or (set ds at.index left) at.index 0 ≡ left
     left_here = get_or-set_same ds at.index left 0 backing_room
@@ -71,7 +62,7 @@ module _ {v : ℕ} {ord cs : List ℕ} {i : ℕ} {ds : List ℕ} {at : Pair} (b 
     pub back_some : (left ≡ 0 → ⊥) → Back v ord cs i (set ds at.index left) at
     back_some n =
         record {
-          bytes = back_bytes;
+          sets = back_sets;
           pair = b.pair;
           within = b.within;
           most = b.most;
@@ -94,7 +85,7 @@ module _ {v : ℕ} {ord cs : List ℕ} {i : ℕ} {ds : List ℕ} {at : Pair} (b 
       pub back_on : {to : Pair} → IsPair v to → to.q < v → to.index + 1 ≡ at.index → Backing v ord cs i (set ds at.index left) to
       back_on {to} p h e =
           record {
-            bytes = back_bytes;
+            sets = back_sets;
             cells = backing_length left;
             pair = p;
             within = h;

@@ -7,5 +7,6 @@ pub mod Standing
 pub mod Resuming
 pub mod Turning
 pub mod Attempts
+pub mod Trying
 pub mod Midway
 pub mod Determined

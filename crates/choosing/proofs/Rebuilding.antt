@@ -1,10 +1,11 @@
 -- A table is narrowed choice by choice along the pairs, and the list has what that changes. Assumes nothing.
-use mathlib.Core.Path.{◌≡◌, sym, ap, subst}
-use mathlib.Core.Bool.{Bool, true, false}
+use mathlib.Core.Path.{◌≡◌, sym, ap, ◌∙◌, subst}
 use mathlib.Core.Logic.{⊎_elim}
 use mathlib.Core.List.{List}
 use Prim.Native.Nat.{ℕ, ◌+◌, ◌≤◌, ◌<◌}
 use native.Mathlib.Omega.{arith}
+use Rattle.std.specs.Prelude.{Result, Ok, Err}
+use Rattle.std.proofs.lemmas.Grind.{get_or_default_zero}
 use lib.Dec.{T_not}
 use lib.ListN.{length, get_or, replicate}
 use Rattle.rules.specs.Relations.{◌lies_within◌, converse}
@@ -14,12 +15,17 @@ use Rattle.rules.specs.Search.{places}
 use Rattle.rules.proofs.Tests.{below_suc}
 use Rattle.rules.proofs.Sets.{lies_trans}
 use Rattle.orders.specs.Orders.{pick}
+use Rattle.moves.specs.declared.Emptied.{Emptied}
 use Rattle.moves.specs.Moves.{Marks, Mutual, Struck, Moved}
 use Rattle.moves.proofs.Moving.{moved_none, moved_then, strike_moved, strike_lost, strike_within}
 use Rattle.choosing.specs.declared.pairs.Pair.{Pair}
 use Rattle.choosing.specs.Pairs.{pair_cell, IsPair}
 use Rattle.choosing.specs.Choices.{Chosen, Standing, Restored}
 use Rattle.choosing.proofs.Walking.{pair_board, pair_place, pair_open}
+
+-- what is picked of the set that was read
+pub read_pick : (ord cs : List ℕ) (i : ℕ) {x y : ℕ} → i < length cs → y ≡ get_or cs i y → x ≡ pick ord y → x ≡ pick ord (get_or cs i 0)
+read_pick ord cs i {x} {y} h read e = e ∙ ap (pick ord) (read ∙ get_or_default_zero cs i y h)
 
 -- choices that are the same stand alike
 pub standing_same : {v : ℕ} {ord cs ds t : List ℕ} {n : ℕ} → ((m : ℕ) → m < n → get_or ds m 0 ≡ get_or cs m 0) → Standing v ord cs t n → Standing v ord ds t n
@@ -43,18 +49,6 @@ pub record Built (v : ℕ) (ord cs t : List ℕ) (n : ℕ) (w l : List ℕ) (at 
   pub moved : Moved (Chosen v ord cs t n) v t (replicate most_boards 0) w l
   pub picks : (m : ℕ) → m < at.index → get_or w (pair_cell v m) 0 lies_within pick ord (get_or cs m 0)
 
-pub built_none : {v : ℕ} {ord cs t : List ℕ} {n : ℕ} {w l : List ℕ} {at : Pair} → IsPair v at → at.index ≡ 0 → Mutual v t → Marks v (replicate most_boards 0) → w ≡ t
-    → l ≡ replicate most_boards 0 → Built v ord cs t n w l at
-built_none {v} {ord} {cs} {t} {n} {w} {l} h e u m f g =
-    record {
-      pair = h;
-      most = omega arith;
-      moved =
-          subst (λ (y : List ℕ). Moved (Chosen v ord cs t n) v t (replicate most_boards 0) y l) (sym f)
-          (subst (λ (k : List ℕ). Moved (Chosen v ord cs t n) v t (replicate most_boards 0) t k) (sym g) (moved_none u m));
-      picks = λ i k. let z : ⊥ = omega arith in absurd z;
-    }
-
 module _ {v : ℕ} {ord cs t : List ℕ} {n : ℕ} {w l : List ℕ} {at : Pair} (b : Built v ord cs t n w l at) where
   -- while choices are left, this is a pair
   pub built_open : n ≤ length (places v) → at.index < n → at.q < v
@@ -74,12 +68,12 @@ module _ {v : ℕ} {ord cs t : List ℕ} {n : ℕ} {w l : List ℕ} {at : Pair} 
     )
 
     -- the strike never empties a cell: some table stands
-    pub built_struck : {y k : List ℕ} (some : Bool) → Standing v ord cs t n → Struck v at.p at.q x w l y k some → Struck v at.p at.q x w l y k true
-    built_struck true s r = r
-    built_struck false s r =
+    pub built_struck : {y k : List ℕ} (told : Result (Unit {0}) Emptied) → Standing v ord cs t n → Struck v at.p at.q x w l y k told → Struck v at.p at.q x w l y k (Ok tt)
+    built_struck (Ok _) s r = r
+    built_struck (Err _) s r =
         absurd (T_not (emptied s.x) s.filled (strike_lost b.moved.fit b.moved.list below within asked r s.x s.table s.chosen (b.moved.keeps s.x s.chosen s.chosen.inside)))
 
-    pub built_more : {y k : List ℕ} {to : Pair} → Struck v at.p at.q x w l y k true → IsPair v to → to.index ≡ at.index + 1 → Built v ord cs t n y k to
+    pub built_more : {y k : List ℕ} {to : Pair} → Struck v at.p at.q x w l y k (Ok tt) → IsPair v to → to.index ≡ at.index + 1 → Built v ord cs t n y k to
     built_more {y} {k} {to} r h d =
         let g = strike_moved b.moved.fit b.moved.list below within asked r in
         record {
@@ -96,7 +90,3 @@ module _ {v : ℕ} {ord cs t : List ℕ} {n : ℕ} {w l : List ℕ} {at : Pair} 
             subst (λ (i : ℕ). get_or y (pair_cell v i) 0 lies_within pick ord (get_or cs i 0)) (sym f)
             (subst (λ (z : ℕ). z lies_within pick ord (get_or cs at.index 0)) (sym (cell_at y))
             (subst (λ (z : ℕ). cell v y at.p at.q lies_within z) e (strike_within b.moved.fit b.moved.list below within asked r)))
-
-  -- no choice is left
-  pub built_end : n ≤ at.index → Restored v ord cs t n w l
-  built_end h = record { moved = b.moved; picks = λ m i. b.picks m (omega arith) }

@@ -10,6 +10,7 @@ use native.Mathlib.Omega.{arith}
 use lib.Dec.{T, T_not}
 use lib.ListN.{length, get_or, set, drop}
 use lib.Seq.{drop-cons}
+use Rattle.std.specs.Prelude.{Option, Some, None, MatchOption}
 use Rattle.rules.specs.Relations.{set_limit, has, meet, complement, size, ◌lies_within◌}
 use Rattle.rules.specs.Descriptions.{Sheet}
 use Rattle.rules.specs.Tables.{Table, Inside, emptied}
@@ -26,11 +27,11 @@ use Rattle.passes.specs.Passes.{Filled}
 use Rattle.orders.specs.Orders.{still, pick, unpicked}
 use Rattle.orders.proofs.Picking.{still_less, none_still}
 use Rattle.choosing.specs.declared.pairs.Pair.{Pair}
-use Rattle.choosing.specs.declared.choices.Next.{Next}
-use Rattle.choosing.specs.declared.choices.Next.TheVariants.{Try, Found, Spent}
+use Rattle.choosing.specs.declared.Next.{Next}
+use Rattle.choosing.specs.declared.Next.TheVariants.{Try, Found, Spent}
 use Rattle.choosing.specs.Pairs.{pair_cell}
 use Rattle.choosing.specs.Choices.{Passed, Several, NextOpen}
-use Rattle.choosing.specs.Standings.{else_end, stood, trying, resume, ahead, ChoiceMade, Whole, ChoicesStand, Due, due}
+use Rattle.choosing.specs.Standings.{onward, backward, else_end, stood, trying, resume, ahead, ChoiceMade, Whole, ChoicesStand, Due, due}
 use Rattle.choosing.specs.Tries.{retreats, Tried}
 use Rattle.choosing.proofs.Walking.{pair_within, place_cell}
 use Rattle.choosing.proofs.Standing.{largest_self, inside_set, set_inside, Choice, choice_in, choice_at, table_narrowed, inside_narrowed, closes_next, inside_at, restored_closes}
@@ -43,7 +44,7 @@ module _ {s : Sheet} {ord first : List ℕ} where
   stands_fewer : {cs : List ℕ} {i j : ℕ} → j ≤ i → ChoicesStand s ord first cs i → ChoicesStand s ord first cs j
   stands_fewer h k = record { whole = k.whole; each = λ m l. k.each m (omega arith) }
 
-  -- by other bytes that are the same up to there
+  -- by other sets that are the same up to there
   stands_same : (cs ds : List ℕ) (i : ℕ) → ((m : ℕ) → m < i → get_or ds m 0 ≡ get_or cs m 0) → ChoicesStand s ord first cs i → ChoicesStand s ord first ds i
   stands_same cs ds i h k =
       record {
@@ -69,6 +70,16 @@ module _ {s : Sheet} {ord first : List ℕ} where
         whole = k.whole;
         each = λ m l. ⊎_elim (λ e. subst (ChoiceMade (closing s) ord s.boards first cs) (sym e) c) (λ h. k.each m h) (below_suc l);
       }
+
+-- ---- what comes next, as the code tells it
+
+pub onward_is : (to : Option Pair) (next : Next) → MatchOption to (next ≡ Found) (λ at. next ≡ Try at) → next ≡ onward to
+onward_is (Some at) next e = e
+onward_is None next e = e
+
+pub backward_is : (to : Option Pair) (next : Next) → MatchOption to (next ≡ Spent) (λ at. next ≡ Try at) → next ≡ backward to
+backward_is (Some at) next e = e
+backward_is None next e = e
 
 le_below : {m n : ℕ} → m ≤ n → m < suc n
 le_below h = omega arith
@@ -184,7 +195,7 @@ module _ (s : Sheet) {ord : List ℕ} (order : Order ord) (first : List ℕ) whe
           let b : m < length (places v) = omega arith in
           let one = passed.single m a l in
           let kept = passed.kept m a l in
-          let small = passed.bytes.small in
+          let small = passed.sets.small in
           subst (Reached (onto cs i t) t ds) (sym (add-suc i d))
           (record {
             stands = stands_more r.stands (settled_chosen w ds m b small r.table one kept);
@@ -201,21 +212,21 @@ module _ (s : Sheet) {ord : List ℕ} (order : Order ord) (first : List ℕ) whe
           sub_back {a} {b} h = (b - a, omega arith)
 
     -- to a pair with several relations, or past the last pair
-    pub going_on : (ds : List ℕ) (next : Next) → NextOpen v t cs i ds next
-        → due s ord first ds t next × (onto cs i t ≡ ahead clo ord v first ds t next)
-    going_on ds (Try at) (passed, several) =
+    pub going_on : (ds : List ℕ) (next : Option Pair) → NextOpen v t cs i ds next
+        → due s ord first ds t (onward next) × (onto cs i t ≡ ahead clo ord v first ds t (onward next))
+    going_on ds (Some at) (passed, several) =
         let l : at.index < length (places v) = pair_within several.pair several.within in
         let r = at_last ds at.index (omega arith) passed in
         let k = pair_cell v at.index in (
           record {
-            bytes = passed.bytes;
+            sets = passed.sets;
             pair = several.pair;
             within = several.within;
             stands = r.stands;
             some = λ e. let z : size (get_or t k 0) ≡ 0 = ap size (sym several.kept ∙ e) ∙ size_zero in let m : 1 < size (get_or t k 0) = several.many in let y : ⊥ = omega arith in y;
             among = lies_eq (several.kept ∙ ap (λ (x : List ℕ). get_or x k 0) (sym r.table));
             table = w.table;
-            inside = subst (λ (x : List ℕ). Inside x first) r.table (inside_at s order first ds passed.bytes.small (omega arith) r.stands at.index (omega arith));
+            inside = subst (λ (x : List ℕ). Inside x first) r.table (inside_at s order first ds passed.sets.small (omega arith) r.stands at.index (omega arith));
             closes = subst (Largest s t) (sym r.table) (largest_self w.table w.closed);
           },
           r.comes ∙ ap (resume clo ord v first ds at.index) (chosen_next ds at l several r.table),
@@ -230,7 +241,7 @@ module _ (s : Sheet) {ord : List ℕ} (order : Order ord) (first : List ℕ) whe
             ∙ choose_first clo ord k (drop (suc at.index) (places v)) t several.many
             ∙ attempt_still clo go k t ord
             ∙ ap₂ (λ (x : List ℕ) (c : ℕ). attempt clo go k x (still ord c)) (sym e) (sym several.kept)
-    going_on ds Found passed =
+    going_on ds None passed =
         let r = at_last ds (length (places v)) (omega arith) passed in (
           tt,
           r.comes ∙ ap (λ (ks : List ℕ). resume clo ord v first ds (length (places v)) (choose clo ord ks t)) (drop_all (places v) (length (places v)) refl)
@@ -239,13 +250,12 @@ module _ (s : Sheet) {ord : List ℕ} (order : Order ord) (first : List ℕ) whe
       where
         ended : (ds : List ℕ) → resume clo ord v first ds (length (places v)) (choose clo ord [] t) ≡ found 0 t
         ended ds = ap (resume clo ord v first ds (length (places v))) (choose_none clo ord t) ∙ resume_found clo ord v first ds (length (places v)) 0 t
-    going_on ds Spent z = absurd z
 
   -- ---- a try
 
   module _ (cs u : List ℕ) (at : Pair) (try : Due s ord first cs u at) where
     small : (m : ℕ) → get_or cs m 0 < set_limit
-    small = try.bytes.small
+    small = try.sets.small
 
     abbrev i : ℕ
     i = at.index
@@ -294,7 +304,7 @@ module _ (s : Sheet) {ord : List ℕ} (order : Order ord) (first : List ℕ) whe
       pub tried_whole : Whole s w
       tried_whole = record { table = largest.table; closed = largest.closed; filled = filled }
 
-      pub try_on : (from : ℕ) → from ≡ i + 1 → (ds : List ℕ) (next : Next) → NextOpen v w cs from ds next → Tried s ord first at cs ds w next
+      pub try_on : (from : ℕ) → from ≡ i + 1 → (ds : List ℕ) (next : Option Pair) → NextOpen v w cs from ds next → Tried s ord first at cs ds w (onward next)
       try_on from e ds next o =
           let f : from ≡ suc i = e ∙ next_of i in
           let g = going_on tried_whole cs (suc i)
@@ -341,8 +351,8 @@ module _ (s : Sheet) {ord : List ℕ} (order : Order ord) (first : List ℕ) whe
           let e : j + d ≡ i = omega arith in
           ap left (sym e) ∙ left_back j d (λ m l k. f m l (subst (λ (n : ℕ). m ≤ n) e k))
 
-      pub try_back : (ds w k : List ℕ) (next : Next) → retreats v ord first at cs ds w k next → Tried s ord first at cs ds w next
-      try_back ds w k (Try to) (b, e) =
+      pub try_back : (ds w k : List ℕ) (next : Option Pair) → retreats v ord first at cs ds w k next → Tried s ord first at cs ds w (backward next)
+      try_back ds w k (Some to) (b, e) =
           let j = to.index in
           let stands : ChoicesStand s ord first ds j = stands_same cs ds j b.before (stands_fewer b.most try.stands) in
           let l : j ≤ length (places v) = let h : j ≤ i = b.most in let k : i < length (places v) = within in omega arith in
@@ -350,7 +360,7 @@ module _ (s : Sheet) {ord : List ℕ} (order : Order ord) (first : List ℕ) whe
           record {
             due =
                 record {
-                  bytes = b.bytes;
+                  sets = b.sets;
                   pair = b.pair;
                   within = b.within;
                   stands = stands;
@@ -360,7 +370,7 @@ module _ (s : Sheet) {ord : List ℕ} (order : Order ord) (first : List ℕ) whe
                       (subst (λ (c : ℕ). c lies_within get_or (stand cs j) (pair_cell v j) 0) (sym b.here) (lies_trans (meet_left (get_or cs j 0) (complement (pick ord (get_or cs j 0)))) (among_at j b.most)));
                   table = e.moved.fit.ready.table;
                   inside = e.moved.inside;
-                  closes = restored_closes s order first ds b.bytes.small l stands j (omega arith) e;
+                  closes = restored_closes s order first ds b.sets.small l stands j (omega arith) e;
                 };
             ahead =
                 comes_left ∙ ap (later 1)
@@ -373,8 +383,7 @@ module _ (s : Sheet) {ord : List ℕ} (order : Order ord) (first : List ℕ) whe
           among_at j h =
               ⊎_elim (λ (e : j ≡ i). subst (λ (n : ℕ). get_or cs n 0 lies_within get_or (stand cs n) (pair_cell v n) 0) (sym e) try.among) (λ l. (try.stands.each j l).among)
               (below_suc (le_below h))
-      try_back ds w k Found z = absurd z
-      try_back ds w k Spent f =
+      try_back ds w k None f =
           record {
             due = tt;
             ahead =

@@ -1,5 +1,5 @@
 -- Where a search stands by its choices, over any closing and any order: the table at each pair, and what is still to come. Assumes nothing.
-use Rattle.std.specs.Prelude.{◌≡◌, List, ℕ, zero, suc, ◌<◌, slice_index, set, drop}
+use Rattle.std.specs.Prelude.{◌≡◌, List, ℕ, zero, suc, ◌<◌, Option, Some, None, slice_index, set, drop}
 use Rattle.rules.specs.Relations.{◌lies_within◌}
 use Rattle.rules.specs.Descriptions.{Sheet}
 use Rattle.rules.specs.Tables.{Table, Inside}
@@ -9,10 +9,19 @@ use Rattle.rules.specs.Search.{End, found, none, later, attempt, choose, places}
 use Rattle.passes.specs.Passes.{Filled}
 use Rattle.orders.specs.Orders.{still, pick, unpicked}
 use Rattle.choosing.specs.declared.pairs.Pair.{Pair}
-use Rattle.choosing.specs.declared.choices.Next.{Next}
-use Rattle.choosing.specs.declared.choices.Next.TheVariants.{Try, Found, Spent}
+use Rattle.choosing.specs.declared.Next.{Next}
+use Rattle.choosing.specs.declared.Next.TheVariants.{Try, Found, Spent}
 use Rattle.choosing.specs.Pairs.{pair_cell, IsPair}
-use Rattle.choosing.specs.Choices.{Bytes}
+use Rattle.choosing.specs.Choices.{PairSets}
+
+-- what comes next by the pair that looking on, or looking back, has come to
+abbrev pub onward : Option Pair → Next
+onward (Some at) = Try at
+onward None = Found
+
+abbrev pub backward : Option Pair → Next
+backward (Some at) = Try at
+backward None = Spent
 
 -- the end e where the first end was none, with the tries of both
 abbrev pub else_end : End → End → End
@@ -40,7 +49,7 @@ module _ (clo : List ℕ → List ℕ) (ord : List ℕ) (v : ℕ) (first cs : Li
   ahead u Found = found 0 u
   ahead u Spent = none 0
 
-  -- the byte of pair i has relations of its cell, and with its choice the table is not contradictory
+  -- the set of pair i has relations of its cell, and with its choice the table is not contradictory
   pub record ChoiceMade (i : ℕ) : Type 0 where
     pub some : slice_index cs i ≡ 0 → ⊥
     pub among : slice_index cs i lies_within slice_index (stood i) (pair_cell v i)
@@ -60,7 +69,7 @@ module _ (s : Sheet) (ord first : List ℕ) where
 
   -- A try is due at this pair. Its cells, when they are closed, are the table at the pair.
   pub record Due (cs u : List ℕ) (at : Pair) : Type 0 where
-    pub bytes : Bytes s.boards cs
+    pub sets : PairSets s.boards cs
     pub pair : IsPair s.boards at
     pub within : at.q < s.boards
     pub stands : ChoicesStand cs at.index

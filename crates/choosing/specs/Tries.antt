@@ -1,5 +1,5 @@
 -- What a try, a run of tries and the whole search ask for and come to. Assumes nothing.
-use Rattle.std.specs.Prelude.{◌≡◌, List, ℕ, ◌≤◌, ◌<◌, length}
+use Rattle.std.specs.Prelude.{◌≡◌, List, ℕ, ◌≤◌, ◌<◌, Option, Some, None, length}
 use Rattle.rules.specs.Descriptions.{most_boards, Sheet}
 use Rattle.rules.specs.Closing.{closing}
 use Rattle.rules.specs.Search.{Order, End, found, none, later, ended, ran_out, cap}
@@ -7,12 +7,12 @@ use Rattle.moves.specs.Moves.{Marks, Mutual}
 use Rattle.headers.specs.declared.Header.{Header}
 use Rattle.closing.specs.Closes.{Under, Told, Listing}
 use Rattle.choosing.specs.declared.pairs.Pair.{Pair}
-use Rattle.choosing.specs.declared.choices.Next.{Next}
-use Rattle.choosing.specs.declared.choices.Next.TheVariants.{Try, Found, Spent}
+use Rattle.choosing.specs.declared.Next.{Next}
+use Rattle.choosing.specs.declared.Next.TheVariants.{Try, Found, Spent}
 use Rattle.choosing.specs.declared.Ended.{Ended}
 use Rattle.choosing.specs.declared.Ended.TheVariants.{Arranged, Nowhere, RanOut}
 use Rattle.choosing.specs.Pairs.{IsPair}
-use Rattle.choosing.specs.Choices.{Bytes, Back, LastOpen, Standing, Restored}
+use Rattle.choosing.specs.Choices.{PairSets, Back, LastOpen, Standing, Restored}
 use Rattle.choosing.specs.Standings.{ahead, Whole, Due, due}
 
 -- a try has failed at this pair
@@ -21,16 +21,15 @@ pub record Failed (v : ℕ) (ord first : List ℕ) (at : Pair) (cs u l : List �
   pub order : Order ord
   pub pair : IsPair v at
   pub within : at.q < v
-  pub bytes : Bytes v cs
+  pub sets : PairSets v cs
   pub cells : length u ≡ length first
   pub list : length l ≡ most_boards
   pub standing : (n : ℕ) → n ≤ at.index → Standing v ord cs first n
 
 -- what going back from a failed try comes to, with the cells made anew
-abbrev pub retreats : ℕ → List ℕ → List ℕ → Pair → List ℕ → List ℕ → List ℕ → List ℕ → Next → Type 0
-retreats v ord first at cs ds w l (Try to) = Back v ord cs at.index ds to × Restored v ord ds first to.index w l
-retreats v ord first at cs ds w l Found = ⊥
-retreats v ord first at cs ds w l Spent = LastOpen v ord cs at.index ds Spent
+abbrev pub retreats : ℕ → List ℕ → List ℕ → Pair → List ℕ → List ℕ → List ℕ → List ℕ → Option Pair → Type 0
+retreats v ord first at cs ds w l (Some to) = Back v ord cs at.index ds to × Restored v ord ds first to.index w l
+retreats v ord first at cs ds w l None = LastOpen v ord cs at.index ds None
 
 -- where a try is due, the list has what was narrowed since the cells were closed
 abbrev pub relists : Sheet → List ℕ → List ℕ → Next → Type 0
@@ -55,7 +54,7 @@ pub record Choosing (h : Header) (ws xs ord first cs u l : List ℕ) : Type 0 wh
   pub told : Told h ws xs
   pub list : Marks h.boards l
   pub order : Order ord
-  pub bytes : Bytes h.boards cs
+  pub sets : PairSets h.boards cs
   pub whole : Under ws (λ s. Whole s first)
   pub cells : u ≡ first
 

@@ -2,7 +2,7 @@
 use mathlib.Core.Path.{refl}
 use native.Mathlib.Omega.{arith}
 use Rattle.choosing.proofs.Walking.{pair_within, pairs_most, next_first}
-use Rattle.choosing.proofs.pairs.after.Goals as goal
+use Rattle.choosing.proofs.pairs.Pair.after.Goals as goal
 
 pub overflow_add-index : goal.overflow_add-index
 overflow_add-index c =
@@ -10,4 +10,4 @@ overflow_add-index c =
 
 pub returns : goal.returns
 returns c =
-    (next_first c.requires.1 c.requires.2 c.if-at-v.false, refl)
+    (next_first c.requires.1 c.requires.2 c.if-self-v.false, refl)

@@ -78,6 +78,7 @@ pub(crate) fn rebuild(
     // Stays: no `for`, as in `next_open`.
     while at.index < count {
         let bound = orders::pick(order, choices[at.index]);
+        // Some table stands by these choices, so this empties no cell.
         let _ = moves::strike(v, at.p, at.q, bound, cells, marks);
         at = at.after(v);
     }

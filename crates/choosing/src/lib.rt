@@ -70,6 +70,7 @@ fn attempt(
 {
     let v = h.boards;
     let bound = orders::pick(order, choices[at.index]);
+    // The choice is in the cell, so this empties none.
     let _ = moves::strike(v, at.p, at.q, bound, cells, marks);
     if closing::close_listed(h, words, found, cells, marks).is_ok() {
         return next_open(v, at.after(v), cells, choices).map_or(Next::Found, Next::Try);

@@ -16,11 +16,11 @@ use Rattle.rules.proofs.Tests.{below_suc}
 use Rattle.rules.proofs.Sets.{lies_trans}
 use Rattle.orders.specs.Orders.{pick}
 use Rattle.moves.specs.declared.Emptied.{Emptied}
-use Rattle.moves.specs.Moves.{Marks, Mutual, Struck, Moved}
-use Rattle.moves.proofs.Moving.{moved_none, moved_then, strike_moved, strike_lost, strike_within}
+use Rattle.moves.specs.Moves.{Struck, Moved}
+use Rattle.moves.proofs.Moving.{moved_then, strike_moved, strike_lost, strike_within}
 use Rattle.choosing.specs.declared.pairs.Pair.{Pair}
 use Rattle.choosing.specs.Pairs.{pair_cell, IsPair}
-use Rattle.choosing.specs.Choices.{Chosen, Standing, Restored}
+use Rattle.choosing.specs.Choices.{Chosen, Standing}
 use Rattle.choosing.proofs.Walking.{pair_board, pair_place, pair_open}
 
 -- what is picked of the set that was read

@@ -1,5 +1,5 @@
 -- Going on along the pairs: each pair that is passed keeps what its cell holds. Assumes nothing.
-use mathlib.Core.Path.{◌≡◌, refl, sym, ap, ◌∙◌, subst}
+use mathlib.Core.Path.{◌≡◌, sym, ap, ◌∙◌, subst}
 use mathlib.Core.Logic.{⊎_elim}
 use mathlib.Core.List.{List}
 use Prim.Native.Nat.{ℕ, ◌+◌, ◌*◌, ◌≤◌, ◌<◌}
@@ -11,10 +11,9 @@ use Rattle.rules.specs.Relations.{set_limit, size}
 use Rattle.rules.specs.Tables.{cell}
 use Rattle.rules.specs.Search.{places}
 use Rattle.rules.proofs.Strikes.{set_each}
-use Rattle.rules.proofs.Tests.{order_cases}
 use Rattle.passes.specs.Passes.{Ready}
 use Rattle.choosing.specs.declared.pairs.Pair.{Pair}
-use Rattle.choosing.specs.Pairs.{before, pair_cell, IsPair}
+use Rattle.choosing.specs.Pairs.{pair_cell, IsPair}
 use Rattle.choosing.specs.Choices.{PairSets, Passed, Several}
 use Rattle.choosing.proofs.Walking.{pair_place, pair_within, pair_end}
 

@@ -26,7 +26,7 @@ use Rattle.closing.specs.Closes.{Admitted, closes, ClosesUnder}
 use Rattle.closing.proofs.Calling.{admitted_closes}
 use Rattle.choosing.specs.declared.Ended.{Ended}
 use Rattle.choosing.specs.declared.Ended.TheVariants.{Arranged, Nowhere, RanOut}
-use Rattle.choosing.specs.Choices.{Bytes}
+use Rattle.choosing.specs.Choices.{PairSets}
 use Rattle.choosing.specs.Standings.{Whole}
 use Rattle.closing.specs.Closes.{Under}
 use Rattle.choosing.specs.Tries.{ends}
@@ -98,8 +98,8 @@ module _ (t : List ℕ) (b : ℕ) (w : List ℕ) {e : Ended} where
 
 -- ---- room for the choices
 
-pub room_bytes : {v : ℕ} {r : List ℕ} → v ≤ most_boards → r ≡ replicate most_pairs 0 → Bytes v r
-room_bytes {v} {r} h e =
+pub room_sets : {v : ℕ} {r : List ℕ} → v ≤ most_boards → r ≡ replicate most_pairs 0 → PairSets v r
+room_sets {v} {r} h e =
     record {
       room = omega (arith, pairs_most v h, ap length e ∙ length-replicate {A = ℕ} most_pairs 0);
       small = λ m. subst (λ (x : ℕ). x < set_limit) (sym (ap (λ (l : List ℕ). get_or l m 0) e ∙ zeros most_pairs m)) (pow_pos relations);

@@ -7,14 +7,14 @@ use Rattle.headers.specs.declared.Header.{Header}
 use Rattle.closing.specs.Closes.{Admitted}
 use Rattle.choosing.specs.declared.Ended.{Ended}
 use Rattle.choosing.specs.declared.Ended.TheVariants.{Arranged, Nowhere, RanOut}
-use Rattle.choosing.specs.Choices.{Bytes}
+use Rattle.choosing.specs.Choices.{PairSets}
 
 -- a table that was admitted, an order, and room for a search of it
 pub record Roomy (h : Header) (ws ord t first cs u l : List ℕ) : Type 0 where
   pub admitted : Admitted h ws t
   pub order : Order ord
   pub start : length first ≡ length t
-  pub bytes : Bytes h.boards cs
+  pub sets : PairSets h.boards cs
   pub cells : length u ≡ length t
   pub list : l ≡ replicate most_boards 0
 

@@ -1,6 +1,6 @@
 -- `choose` meets its contract: the tries made and what is still to come are what the rule comes to. The measure is the budget left. Assumes nothing.
 use mathlib.Core.Path.{refl, ◌∙◌, subst}
-use Prim.Native.Nat.{ℕ, ◌≤◌}
+use Prim.Native.Nat.{◌≤◌}
 use native.Mathlib.Omega.{arith}
 use Rattle.choosing.specs.Tries.{relists}
 use Rattle.choosing.proofs.Midway.{midway_due, midway_more, midway_found, midway_none, midway_out}

@@ -24,9 +24,9 @@ choose-ended-requires c =
       told = c.tell_kinds-found.ensures;
       list = empty_list c.args.marks.now c.requires.list;
       order = c.requires.order;
-      bytes = c.requires.bytes;
+      sets = c.requires.sets;
       whole = λ s e. first_whole s _ _ c.in-Ok.is (c.close_cells.ensures s e);
-      cells = c.copy_from_slice.ensures;
+      cells = c.copy_from_slice.ensures.after;
     }
 
 pub conclude-requires-2 : goal.conclude-requires-2

@@ -1,17 +1,22 @@
 -- `search_table` meets its contract: what the search in the room comes to. Assumes nothing.
 use mathlib.Core.Path.{sym}
-use Rattle.tables.proofs.Shapes.{room_fits, room_taken}
-use Rattle.search.proofs.Searching.{room_bytes}
+use native.Mathlib.Omega.{arith}
+use Rattle.tables.proofs.Shapes.{square_small, room_taken}
+use Rattle.search.proofs.Searching.{room_sets}
 use Rattle.search.proofs.search_table.Goals as goal
 
-pub slice_bounds-first-end : goal.slice_bounds-first-end
-slice_bounds-first-end c = room_fits c.requires.0.ready c.room-first.ensures
+pub whole_as_front-search_in_room : goal.whole_as_front-search_in_room
+whole_as_front-search_in_room c =
+    let few = square_small c.args.h.boards c.requires.0.ready.boards in
+    (omega (arith, few, c.requires.0.ready.table.cells), omega arith)
 
 pub slice_bounds-search_in_room-end : goal.slice_bounds-search_in_room-end
 slice_bounds-search_in_room-end c = sym (room_taken c.requires.0.ready c.room-first.ensures)
 
-pub slice_bounds-cells-end : goal.slice_bounds-cells-end
-slice_bounds-cells-end c = room_fits c.requires.0.ready c.room-cells.ensures
+pub whole_as_front-search_in_room-2 : goal.whole_as_front-search_in_room-2
+whole_as_front-search_in_room-2 c =
+    let few = square_small c.args.h.boards c.requires.0.ready.boards in
+    (omega (arith, few, c.requires.0.ready.table.cells), omega arith)
 
 pub slice_bounds-search_in_room-end-3 : goal.slice_bounds-search_in_room-end-3
 slice_bounds-search_in_room-end-3 c = sym (room_taken c.requires.0.ready c.room-cells.ensures)
@@ -23,7 +28,7 @@ search_in_room-requires c =
       admitted = pre.0;
       order = pre.1;
       start = room_taken pre.0.ready c.room-first.ensures;
-      bytes = room_bytes pre.0.ready.boards c.room-choices.ensures;
+      sets = room_sets pre.0.ready.boards c.room-choices.ensures;
       cells = room_taken pre.0.ready c.room-cells.ensures;
       list = c.marks_room-marks.ensures;
     }

@@ -85,7 +85,7 @@ impl Index {
     }
 
     // Kind line n, which the index finds in the words.
-    pub fn line_of(&self, words: &[u16], n: usize) -> KindLine
+    fn line_of(&self, words: &[u16], n: usize) -> KindLine
         requires { Located n words.now self.now }
         ensures { result ≡ kind_at words.now (start_of words.now n) }
     {

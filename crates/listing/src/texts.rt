@@ -7,16 +7,16 @@ ghost use Rattle.listing.specs.Listings.{input_line, line_feed, sign, sign_text,
 
 use puts::Writer;
 
-// The sign of a single relation.
+// The sign of a single relation, by the number of its set, as a lent table has it.
 #[tactic(auto, unfolding(crate::specs::Listings::sign))]
 fn sign(set: u8) -> u8
     ensures { result ≡ sign set }
 {
     match set {
-        relations::E => b'=',
-        relations::A => b'<',
-        relations::B => b'>',
-        _ => b'|',
+        1 => b'=', // E
+        2 => b'<', // A
+        4 => b'>', // B
+        _ => b'|', // S
     }
 }
 

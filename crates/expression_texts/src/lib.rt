@@ -19,6 +19,8 @@ const AND: u16 = 5;
 const TIGHTEST: u8 = 2;
 
 // Puts the word for a code, after a blank.
+// Put in its three places, each of which knows more of the code.
+#[inline(always)]
 #[tactic(auto, using(puts::proofs::Putting::putting), unfolding(typed::specs::Writing::spaced, typed::specs::Symbols::spelling, typed::specs::Symbols::words))]
 fn put_word(out: &mut Writer, code: u16)
     requires { (code < 8) × HasRoom out.old (spaced (word code)) }

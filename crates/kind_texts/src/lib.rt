@@ -71,12 +71,14 @@ impl Ways {
         requires { next + 11 ≤ length words.old }
         ensures { Puts board code self.now.kept self.now.count words.old next words.new result }
     {
-        let after = put_start(words, next, board, code, self.count as u16);
-        if MOST_WAYS < self.count {
+        // The ways kept are copied, so that the compiler knows them apart from the words lent.
+        let Ways { kept, count } = *self;
+        let after = put_start(words, next, board, code, count as u16);
+        if MOST_WAYS < count {
             return after;
         }
-        put_words(words, after, &self.kept[..self.count]);
-        after + self.count
+        put_words(words, after, &kept[..count]);
+        after + count
     }
 }
 

@@ -20,7 +20,6 @@ use Rattle.symbols.specs.Tokens.{told}
 use Rattle.symbols.proofs.Steps.{Stepped, ends, steps, Next}
 use Rattle.relation_texts.specs.declared.State.{State}
 use Rattle.relation_texts.specs.declared.Expression.{Expression}
-use Rattle.relation_texts.specs.declared.Found.{Found}
 use Rattle.relation_texts.specs.Scans.{item_of, allowed, deeper, expects, after, ended, Holds, Held}
 use Rattle.relation_texts.proofs.Moves.{preceded_none, preceded_twice, scan_passed, scan_stopped, deeper_most}
 
@@ -71,9 +70,9 @@ after_none s x e = go (allowed s x.depth x.expected) e
     go false e = refl
 
 -- the words so far and the board after them
-held_last : (xs : List Item) (e : Expression) (q : ℕ) (b : Bool) (o : Option Found) → Holds xs e
-    → o ≡ then_some b (record { expression = e; board = q }) → Held (preceded xs (ended b q)) o
-held_last xs e q true o h p = subst (λ (o : Option Found). Held (scanned (xs ++ []) q) o) (sym p) (refl, rw append-nil h)
+held_last : (xs : List Item) (e : Expression) (q : ℕ) (b : Bool) (o : Option ℕ) → Holds xs e → o ≡ then_some b q
+    → Held (preceded xs (ended b q)) e o
+held_last xs e q true o h p = subst (λ (o : Option ℕ). Held (scanned (xs ++ []) q) e o) (sym p) (refl, rw append-nil h)
 held_last xs e q false o h p = p
 
 -- a word is kept, and nothing of any other symbol
@@ -107,14 +106,14 @@ no_number (Number n) f q e = f n refl
 
 module _ {line : List ℕ} {at : ℕ} {e : Expression} {next : ℕ} {x : State} (g : Going line at e next x) where
   -- the line is malformed where what is left of it is
-  malformed_rest : scan x.depth x.expected (symbols (drop next line)) ≡ malformed → (o : Option Found) → o ≡ None
-      → Held (scan 0 true (symbols (drop at line))) o
-  malformed_rest p o n = subst (λ (s : Scanned). Held s o) (sym (g.left ∙ ap (preceded g.words) p)) n
+  malformed_rest : scan x.depth x.expected (symbols (drop next line)) ≡ malformed → (f : Expression) (o : Option ℕ) → o ≡ None
+      → Held (scan 0 true (symbols (drop at line))) f o
+  malformed_rest p f o n = subst (λ (s : Scanned). Held s f o) (sym (g.left ∙ ap (preceded g.words) p)) n
 
   -- nothing is left
-  pub going_none : symbols (drop next line) ≡ [] → (o : Option Found) → o ≡ None → Held (scan 0 true (symbols (drop at line))) o
+  pub going_none : symbols (drop next line) ≡ [] → (f : Expression) (o : Option ℕ) → o ≡ None → Held (scan 0 true (symbols (drop at line))) f o
   unfolding scan
-  going_none i o p = malformed_rest (ap (scan x.depth x.expected) i) o p
+  going_none i f o p = malformed_rest (ap (scan x.depth x.expected) i) f o p
 
   module _ (t : Token) (m : Mark) (n : Next line next t m) where
     passed : (s : Symbol) → told m ≡ s → scan x.depth x.expected (symbols (drop next line)) ≡ scan x.depth x.expected (s ∷ symbols (drop t.next line))
@@ -123,16 +122,17 @@ module _ {line : List ℕ} {at : ℕ} {e : Expression} {next : ℕ} {x : State} 
     -- a board is left, after an expression or not
     pub going_last : (q : ℕ) → told m ≡ number q → (b : Bool)
         → ((q : ℕ) → last_board (eqb x.depth 0 && not x.expected) q (symbols (drop t.next line)) ≡ ended b q)
-        → (o : Option Found) → o ≡ then_some b (record { expression = e; board = q }) → Held (scan 0 true (symbols (drop at line))) o
+        → (o : Option ℕ) → o ≡ then_some b q → Held (scan 0 true (symbols (drop at line))) e o
     unfolding scan
     going_last q p b f o h =
-        subst (λ (s : Scanned). Held s o) (sym (g.left ∙ ap (preceded g.words) (passed (number q) p ∙ f q))) (held_last g.words e q b o g.held h)
+        subst (λ (s : Scanned). Held s e o) (sym (g.left ∙ ap (preceded g.words) (passed (number q) p ∙ f q))) (held_last g.words e q b o g.held h)
 
     -- a symbol is left that may not stand there
-    pub going_stopped : ((q : ℕ) → m ≡ Number q → ⊥) → None ≡ after (told m) x → (o : Option Found) → o ≡ None
-        → Held (scan 0 true (symbols (drop at line))) o
-    going_stopped f h o p =
-        malformed_rest (passed (told m) refl ∙ scan_stopped (told m) (no_number m f) x.depth x.expected (symbols (drop t.next line)) (after_none (told m) x h)) o p
+    pub going_stopped : ((q : ℕ) → m ≡ Number q → ⊥) → None ≡ after (told m) x → (k : Expression) (o : Option ℕ) → o ≡ None
+        → Held (scan 0 true (symbols (drop at line))) k o
+    going_stopped f h k o p =
+        malformed_rest (passed (told m) refl ∙ scan_stopped (told m) (no_number m f) x.depth x.expected (symbols (drop t.next line)) (after_none (told m) x h)) k o
+        p
 
     -- one that may is passed
     pub going_on : {e' : Expression} {y : State} → Holds (g.words ++ item_of (told m) x.depth) e' → Some y ≡ after (told m) x → Going line at e' t.next y

@@ -6,7 +6,6 @@ use Rattle.typed.specs.Symbols.{Symbol, boards, colon, left_paren, right_paren, 
 use Rattle.typed.specs.Scanning.{Item, prefixed, names, fits, Scanned, malformed, scanned}
 use Rattle.relation_texts.specs.declared.State.{State}
 use Rattle.relation_texts.specs.declared.Expression.{Expression}
-use Rattle.relation_texts.specs.declared.Found.{Found}
 
 -- the word that a symbol adds at a depth
 abbrev pub item_of : Symbol → ℕ → List Item
@@ -71,11 +70,11 @@ Nothing e = Holds [] e
 abbrev pub Keeps : Item → Expression → Expression → Type 0
 Keeps x e f = (xs : List Item) → Holds xs e → Holds (xs ++ (x ∷ [])) f
 
--- what the line came to
-abbrev pub Held : Scanned → Option Found → Type 0
-Held malformed o = o ≡ None
-Held (scanned xs q) None = ⊥
-Held (scanned xs q) (Some r) = (r.board ≡ q) × Holds xs r.expression
+-- what the line came to: the words kept, and the board after them
+abbrev pub Held : Scanned → Expression → Option ℕ → Type 0
+Held malformed e o = o ≡ None
+Held (scanned xs q) e None = ⊥
+Held (scanned xs q) e (Some b) = (b ≡ q) × Holds xs e
 
 -- the words after the first three: none where they are too many
 abbrev pub kept : Bool → Expression → List ℕ
@@ -83,6 +82,6 @@ kept true e = prefixed (take e.count e.items)
 kept false e = []
 
 -- the words of a relation line stand from a place on
-pub record PutRelation (r : Found) (before : List ℕ) (at board : ℕ) (after : List ℕ) (next : ℕ) : Type 0 where
-  pub words : after ≡ sets before at (board ∷ r.board ∷ r.expression.count ∷ kept (nat_le r.expression.count most_expression_words) r.expression)
-  pub place : next ≡ at + (3 + length (kept (nat_le r.expression.count most_expression_words) r.expression))
+pub record PutRelation (e : Expression) (before : List ℕ) (at first second : ℕ) (after : List ℕ) (next : ℕ) : Type 0 where
+  pub words : after ≡ sets before at (first ∷ second ∷ e.count ∷ kept (nat_le e.count most_expression_words) e)
+  pub place : next ≡ at + (3 + length (kept (nat_le e.count most_expression_words) e))

@@ -30,13 +30,6 @@ struct Expression {
     count: usize,
 }
 
-// What a well-formed line has after its first board.
-#[derive(Drop)]
-struct Found {
-    expression: Expression,
-    board: u16,
-}
-
 // Whether the word for a code joins two operands.
 #[tactic(auto, using(crate::proofs::Words::joins_or_not), unfolding(typed::specs::Scanning::tightness))]
 fn joins(code: u16) -> bool
@@ -109,13 +102,14 @@ fn ends(line: &[u8], at: usize, state: State) -> bool
     }
 }
 
-// Goes over the line from a place on: the words of the expression with their depths, and the board after it.
-fn scan(line: &[u8], at: usize) -> Option<Found>
-    requires { at ≤ length line.now }
-    ensures { Held (scan 0 true (symbols (drop at line.now))) result }
+// Goes over the line from a place on: the words of the expression with their depths are kept, and the board after it is returned.
+// Stays: the expression is lent, since as a part of what is returned it was copied for each line.
+fn scan(line: &[u8], at: usize, expression: &mut Expression) -> Option<u16>
+    requires inside { at ≤ length line.now }
+    requires empty { Nothing expression.old }
+    ensures { Held (scan 0 true (symbols (drop at line.now))) expression.new result }
 {
     let mut next = at;
-    let mut expression = Expression::new();
     let mut state = State {
         depth: 0,
         expected: true,
@@ -125,7 +119,7 @@ fn scan(line: &[u8], at: usize) -> Option<Found>
         let symbol = token.symbol?;
         match symbol {
             Symbol::Number(board) => {
-                return ends(line, token.next, state).then_some(Found { expression, board });
+                return ends(line, token.next, state).then_some(board);
             }
             Symbol::Word(code) => expression.keep(Item {
                 code,
@@ -139,17 +133,23 @@ fn scan(line: &[u8], at: usize) -> Option<Found>
 }
 
 // Puts the words of a relation line from a place on: of an expression with too many words only how many are counted.
-fn put_relation(found: &Found, words: &mut [u16], next: usize, board: u16) -> usize
-    requires few { found.now.expression.count ≤ most_expression_words + 1 }
+fn put_relation(
+    expression: &Expression,
+    words: &mut [u16],
+    next: usize,
+    first: u16,
+    second: u16,
+) -> usize
+    requires few { expression.now.count ≤ most_expression_words + 1 }
     requires room { next + 18 ≤ length words.old }
-    ensures { PutRelation found.now words.old next board words.new result }
+    ensures { PutRelation expression.now words.old next first second words.new result }
 {
-    let count = found.expression.count;
-    let after = put_start(words, next, board, found.board, count as u16);
+    let count = expression.count;
+    let after = put_start(words, next, first, second, count as u16);
     if MOST_EXPRESSION_WORDS < count {
         return after;
     }
-    put_prefix(&found.expression.items[..count], words, after);
+    put_prefix(&expression.items[..count], words, after);
     after + count
 }
 
@@ -164,9 +164,7 @@ pub fn take_relation(
     requires { (at ≤ length line.now) × (next + 18 ≤ length words.old) }
     ensures { Took most_expression_words (relation_of board (scan 0 true (symbols (drop at line.now)))) words.old next words.new result }
 {
-    // Stays: with `?`, or with `map`, this function gets no proof.
-    let Some(found) = scan(line, at) else {
-        return None;
-    };
-    Some(put_relation(&found, words, next, board))
+    let mut expression = Expression::new();
+    let last = scan(line, at, &mut expression)?;
+    Some(put_relation(&expression, words, next, board, last))
 }

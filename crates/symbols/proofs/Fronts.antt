@@ -1,6 +1,6 @@
 -- The first symbol of the end of a line, by the byte that it begins with. Assumes nothing.
 use mathlib.Core.Path.{◌≡◌, refl, sym, ap, ◌∙◌}
-use mathlib.Core.Bool.{Bool, true, false, not, cond}
+use mathlib.Core.Bool.{Bool, true, false, not, ◌||◌, cond}
 use mathlib.Core.List.{List, [], ◌∷◌}
 use Prim.Native.Nat.{ℕ, suc, ◌+◌, ◌-◌, ◌≤◌, ◌<◌}
 use native.Mathlib.Omega.{arith}
@@ -10,7 +10,7 @@ use lib.ListN.{length, get_or, take, drop, length-drop, drop_of_length-le}
 use lib.Seq.{drop-cons, length-take-le, drop-drop, get_or-drop}
 use Rattle.std.specs.Prelude.{Some, None}
 use Rattle.std.specs.List.{between, prefix_len}
-use Rattle.std.proofs.lemmas.List.Sums.{prefix_len-le-length, prefix_len_stops}
+use Rattle.std.proofs.lemmas.List.Sums.{prefix_len-le-length, prefix_len_stops, prefix_len-drop_yes}
 use Rattle.std.proofs.lemmas.Slice.{between_to_end}
 use Rattle.typed.specs.Symbols.{Symbol, colon, left_paren, right_paren, blank, parts, run, symbol_of, Front, front, first, front_of}
 use Rattle.symbols.specs.declared.Token.{Token}
@@ -104,17 +104,28 @@ module _ (line : List ℕ) (i n : ℕ) (h : i ≤ length line) where
             ∙ prefix_len_stops is_blank (drop i line) 0 (omega (arith, length-drop i line));
       }
 
-  pub run_ends : n ≡ prefix_len joins (between i (length line) line) → RunEnd line i (i + n)
-  run_ends e =
-      let p : n ≡ prefix_len joins (drop i line) = e ∙ ap (prefix_len joins) whole in
-      let k : prefix_len joins (drop i line) ≡ i + n - i = omega arith in
+-- a byte that does not part
+no_part : (b : ℕ) → eqb b blank ≡ false → eqb b 58 ≡ false → eqb b 40 ≡ false → eqb b 41 ≡ false → parts b ≡ false
+unfolding parts
+no_part b p q u v =
+    ap (λ (t : Bool). t || eqb b 58 || eqb b 40 || eqb b 41) p ∙ ap (λ (t : Bool). t || eqb b 40 || eqb b 41) q ∙ ap (λ (t : Bool). t || eqb b 41) u ∙ v
+
+module _ (line : List ℕ) (i : ℕ) (h : i < length line) where
+  -- a run is its first byte and those after it that do not part
+  pub run_ends : (n : ℕ) → eqb (get_or line i 0) blank ≡ false → (get_or line i 0 ≡ 58 → ⊥) → (get_or line i 0 ≡ 40 → ⊥) → (get_or line i 0 ≡ 41 → ⊥)
+      → n ≡ prefix_len joins (between (i + 1) (length line) line) → RunEnd line i (i + 1 + n)
+  run_ends n solid c l r e =
+      let b = get_or line i 0 in
+      let j : joins b ≡ true = ap not (no_part b solid (ne_eqb b 58 c) (ne_eqb b 40 l) (ne_eqb b 41 r)) in
+      let q : n ≡ prefix_len joins (drop (i + 1) line) = e ∙ ap (prefix_len joins) (whole line (i + 1) n (omega arith)) in
+      let p : prefix_len joins (drop i line) ≡ 1 + prefix_len joins (drop (i + 1) line) = prefix_len-drop_yes joins line i 0 h j in
+      let k : prefix_len joins (drop i line) ≡ i + 1 + n - i = omega (arith, p, q) in
       record {
         after = omega arith;
-        inside = omega (arith, length-drop i line, prefix_len-le-length joins (drop i line));
+        inside = omega (arith, p, q, length-drop i line, prefix_len-le-length joins (drop i line));
         run = run_prefix (drop i line) ∙ ap (λ (k : ℕ). take k (drop i line)) k;
       }
 
-module _ (line : List ℕ) (i : ℕ) (h : i < length line) where
   -- what is no blank begins a symbol
   front_solid : eqb (get_or line i 0) blank ≡ false → front_of (drop i line) ≡ first (get_or line i 0) (drop (suc i) line)
   unfolding front_of by_blank

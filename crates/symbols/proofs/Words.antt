@@ -17,14 +17,14 @@ use Rattle.std.proofs.lemmas.Slice.Eq.{bytes_eq-Decides}
 use Rattle.std.proofs.lemmas.List.Quantifiers.{position-Some}
 use Rattle.std.proofs.lemmas.List.Sums.{fails_before_first}
 use Rattle.rules.proofs.Tests.{clash}
-use Rattle.spelled.proofs.Runs.{bytes_same, other_bytes}
+use Rattle.spelled.proofs.Runs.{other_bytes}
 use Rattle.spelled.proofs.Numbers.{number_of_either}
 use Rattle.typed.specs.Symbols.{Symbol, boards, word, boards_word, words, equal_bytes, if_number, number_of, word_of, symbol_of}
 use Rattle.symbols.specs.declared.Symbol.{Symbol as Mark}
 use Rattle.symbols.specs.declared.Symbol.TheVariants.{Unknown, Number}
 use Rattle.symbols.specs.Tokens.{mark}
 
--- ---- `==` on slices is the test of the definitions
+-- ---- bytes that are the same, as the library and the definitions test it
 
 same_test : (xs ys : List ℕ) → bytes_eq xs ys ≡ equal_bytes xs ys
 unfolding equal_bytes
@@ -33,9 +33,11 @@ same_test [] (y ∷ ys) = refl
 same_test (x ∷ xs) [] = refl
 same_test (x ∷ xs) (y ∷ ys) = ap (λ (b : Bool). eqb x y && b) (same_test xs ys)
 
-turned : (xs ys : List ℕ) (b : Bool) → bytes_eq xs ys ≡ b → equal_bytes ys xs ≡ b
-turned xs ys true e = ap (equal_bytes ys) ((bytes_eq-Decides xs ys).0 e) ∙ bytes_same ys
-turned xs ys false e = other_bytes ys xs (λ q. clash (let t = (bytes_eq-Decides xs ys).1 (sym q) in cc))
+pub same_bytes : (xs ys : List ℕ) → xs ≡ ys → bytes_eq xs ys ≡ true
+same_bytes xs ys e = (bytes_eq-Decides xs ys).1 e
+
+pub others : (xs ys : List ℕ) → (xs ≡ ys → ⊥) → bytes_eq xs ys ≡ false
+others xs ys f = same_test xs ys ∙ other_bytes xs ys f
 
 -- ---- the first word
 
@@ -43,13 +45,13 @@ by_test : Bool → Symbol → Symbol → Symbol
 by_test b s t = elim b [ true ↦ s | false ↦ t ]
 
 module _ (r : List ℕ) where
-  pub is_boards_word : bytes_eq r boards_word ≡ true → symbol_of r ≡ boards
+  pub is_boards_word : bytes_eq boards_word r ≡ true → symbol_of r ≡ boards
   unfolding symbol_of by_test
-  is_boards_word e = ap (λ (b : Bool). by_test b boards (word_of 0 words r)) (turned r boards_word true e)
+  is_boards_word e = ap (λ (b : Bool). by_test b boards (word_of 0 words r)) (sym (same_test boards_word r) ∙ e)
 
-  pub no_boards_word : bytes_eq r boards_word ≡ false → symbol_of r ≡ word_of 0 words r
+  pub no_boards_word : bytes_eq boards_word r ≡ false → symbol_of r ≡ word_of 0 words r
   unfolding symbol_of by_test
-  no_boards_word e = ap (λ (b : Bool). by_test b boards (word_of 0 words r)) (turned r boards_word false e)
+  no_boards_word e = ap (λ (b : Bool). by_test b boards (word_of 0 words r)) (sym (same_test boards_word r) ∙ e)
 
 -- ---- the words for codes
 

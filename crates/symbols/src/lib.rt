@@ -60,18 +60,34 @@ fn number_of(run: &[u8]) -> Option<u16>
     u16::try_from(value).ok()
 }
 
+// Whether two runs of bytes are the same.
+// Stays: a loop in place of `==`, which is a call for each word and slower.
+fn same(word: &[u8], run: &[u8]) -> bool
+    ensures { result ≡ bytes_eq word.now run.now }
+{
+    if word.len() != run.len() {
+        return false;
+    }
+    for i in 0..word.len() {
+        if word[i] != run[i] {
+            return false;
+        }
+    }
+    true
+}
+
 // The place of a run of bytes among some words.
 fn place_among(words: &[&[u8]], run: &[u8]) -> Option<usize>
     ensures { result ≡ position (λ w. bytes_eq w run.now) (map (λ w. w.now) words.now) }
 {
-    words.iter().position(|word| *word == run)
+    words.iter().position(|word| same(word, run))
 }
 
 // The symbol that a run of bytes spells.
 fn symbol_of(run: &[u8]) -> Symbol
     ensures { result ≡ mark (symbol_of run.now) }
 {
-    if run == BOARDS {
+    if same(BOARDS, run) {
         return Symbol::Boards;
     }
     match place_among(&WORDS, run) {
@@ -81,11 +97,18 @@ fn symbol_of(run: &[u8]) -> Symbol
 }
 
 // Whether a word or a number ends before this byte.
+// Stays: an arm for each byte, since the bytes of an or-pattern are compared one by one, which is slower.
 #[tactic(auto, unfolding(typed::specs::Symbols::parts))]
 fn parts(byte: u8) -> bool
     ensures { result ≡ parts byte }
 {
-    matches!(byte, b' ' | b':' | b'(' | b')')
+    match byte {
+        b' ' => true,
+        b':' => true,
+        b'(' => true,
+        b')' => true,
+        _ => false,
+    }
 }
 
 // How many blanks are at the front of some bytes.
@@ -123,7 +146,8 @@ pub fn symbol_at(line: &[u8], at: usize) -> Token
         Some(b'(') => single(Symbol::LeftParen),
         Some(b')') => single(Symbol::RightParen),
         Some(_) => {
-            let end = from + run_length(&line[from..]);
+            // Stays: the first byte is counted here, since looked at twice it makes each word and number slower.
+            let end = from + 1 + run_length(&line[from + 1..]);
             Token {
                 symbol: Some(symbol_of(&line[from..end])),
                 next: end,

@@ -12,7 +12,7 @@ use Rattle.relation_texts.proofs.scan.Goals.{in-Word, in_default}
 pub returns-in_err-symbol : goal.returns-in_err-symbol
 returns-in_err-symbol c =
     let g = c.loop-symbol.invariant in
-    going_none g (none_left _ _ g.inside c.symbol_at-token.ensures c.in_err-symbol.was) _ c.from_residual.ensures
+    going_none g (none_left _ _ g.inside c.symbol_at-token.ensures c.in_err-symbol.was) _ _ c.from_residual.ensures
 
 pub ends-requires : goal.ends-requires
 ends-requires c = (next_symbol _ _ c.loop-symbol.invariant.inside c.symbol_at-token.ensures c.in_ok-symbol.symbol c.in_ok-symbol.was).inside
@@ -30,9 +30,9 @@ returns-in_err-state c =
     let next = next_symbol c.args.line.now c.loop-symbol.next g.inside c.symbol_at-token.ensures m in
     elim c.match-symbol.branch [
       | in-Word w ↦ going_stopped g _ m (next (c.in_ok-symbol.was ∙ ap Some (w.in-Word.is ∙ sym w.symbol-is)))
-          (λ q h. let e = w.symbol-is in clash (cc)) c.in_err-state.ensures _ c.from_residual-in_err-state.ensures
+          (λ q h. let e = w.symbol-is in clash (cc)) c.in_err-state.ensures _ _ c.from_residual-in_err-state.ensures
       | in_default w ↦ going_stopped g _ m (next (c.in_ok-symbol.was ∙ ap Some (sym w.symbol-is)))
-          (λ q h. w.in_default.not-Number q (sym w.symbol-is ∙ h)) c.in_err-state.ensures _ c.from_residual-in_err-state.ensures
+          (λ q h. w.in_default.not-Number q (sym w.symbol-is ∙ h)) c.in_err-state.ensures _ _ c.from_residual-in_err-state.ensures
     ]
 
 pub loop-symbol-smaller : goal.loop-symbol-smaller

@@ -3,4 +3,4 @@ use Rattle.relation_texts.proofs.Taking.{took_words}
 use Rattle.relation_texts.proofs.take_relation.Goals as goal
 
 pub returns : goal.returns
-returns c = took_words c.args.board c.args.words.now c.args.next c.in-Some.found _ c.in-Some.ensures c.put_relation.ensures
+returns c = took_words c.args.board c.args.words.now c.args.next _ c.in_ok-last.last _ c.in_ok-last.ensures c.put_relation.ensures

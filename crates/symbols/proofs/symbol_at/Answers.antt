@@ -43,9 +43,10 @@ returns-in-Some c =
     let line = c.args.line.now in
     let s = past_blanks line c.args.at c.blanks.result c.requires c.blanks.ensures.counted in
     let l = c.in-Some.ensures.lookup.3 in
-    let e = run_ends line _ c.run_length.result s.inside c.run_length.ensures.counted in
     let colon : c.in-Some.field-0.now ≡ 58 → ⊥ = search rules in
     let left : c.in-Some.field-0.now ≡ 40 → ⊥ = search rules in
     let right : c.in-Some.field-0.now ≡ 41 → ⊥ = search rules in
-    ap (λ (s : Symbol). record { symbol = Some s; next = c.args.at + c.blanks.result + c.run_length.result }) c.symbol_of.ensures
+    let e = run_ends line _ l.0 c.run_length.result (s.solid l.0) (λ q. colon (l.1 0 ∙ q)) (λ q. left (l.1 0 ∙ q)) (λ q. right (l.1 0 ∙ q))
+    c.run_length.ensures.counted in
+    ap (λ (s : Symbol). record { symbol = Some s; next = c.args.at + c.blanks.result + 1 + c.run_length.result }) c.symbol_of.ensures
     ∙ token_run _ _ _ s l.0 (λ q. colon (l.1 0 ∙ q)) (λ q. left (l.1 0 ∙ q)) (λ q. right (l.1 0 ∙ q)) _ e

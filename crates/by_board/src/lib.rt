@@ -25,7 +25,7 @@ pub struct Index {
     by_panel: [NumberSet; MOST_BOARDS],
     by_way: [NumberSet; SPOTS],
     places: [NumberSet; MOST_BOARDS],
-    starts: [usize; STARTS],
+    starts: [u32; STARTS],
 }
 
 impl Model for Index {
@@ -67,7 +67,7 @@ impl Index {
             self.by_way[MOST_WAYS * y + i].insert(n);
             self.places[y].insert(i);
         }
-        self.starts[n] = at;
+        self.starts[n] = at as u32;
         end
     }
 
@@ -89,7 +89,7 @@ impl Index {
         requires { Located n words.now self.now }
         ensures { result ≡ kind_at words.now (start_of words.now n) }
     {
-        kind_at(words, self.starts[n])
+        kind_at(words, self.starts[n] as usize)
     }
 
     // The lines whose panel is board b.

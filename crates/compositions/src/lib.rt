@@ -3,13 +3,11 @@
 
 mod entries;
 
-ghost use Rattle.std.specs.Prelude.{◌≡◌, ◌<◌};
+ghost use Rattle.std.specs.Prelude.{◌≡◌, ◌<◌, map};
 ghost use Rattle.rules.specs.Relations.{relations, composed, compose};
+ghost use Rattle.compositions.specs.Composing.{Composes};
 
 use relations::{RELATIONS, RelationSet, SETS};
-
-// How many pairs of sets there are.
-const SET_PAIRS: usize = SETS * SETS;
 
 // The sixteen compositions of single relations: what p to r may be, given p to q (row) and q to r (column).
 const SINGLES: [[u8; RELATIONS]; RELATIONS] = [
@@ -27,13 +25,21 @@ fn composed(r: usize, s: usize) -> u8
     SINGLES[r][s]
 }
 
-// The compositions of all pairs of sets, laid out once for all.
-static COMPOSITIONS: [u8; SET_PAIRS] = entries::ENTRIES;
+// The compositions of all pairs of sets, laid out once for all. A row is found by its address, so a loop over the sets after the same one finds it once.
+static COMPOSITIONS: [&[u8; SETS]; SETS] = entries::ENTRIES;
+
+// Gives what two sets compose to, by a table with a row for each set.
+fn composed_by(rows: &[&[u8; SETS]], x: RelationSet, y: RelationSet) -> RelationSet
+    requires { Composes (map (λ row. row.now) rows.now) }
+    ensures { result ≡ compose x y }
+{
+    let row = rows[usize::from(u8::from(x))];
+    RelationSet::new(row[usize::from(u8::from(y))])
+}
 
 // Gives what two sets compose to, by the table of compositions.
 pub fn compose(x: RelationSet, y: RelationSet) -> RelationSet
     ensures { result ≡ compose x y }
 {
-    let row = SETS * usize::from(u8::from(x));
-    RelationSet::new(COMPOSITIONS[row + usize::from(u8::from(y))])
+    composed_by(&COMPOSITIONS, x, y)
 }

@@ -79,9 +79,11 @@ fn rule6_each(
     requires { SiteOf lines.now cells.old marks.old × Numbers lines.now.count numbers × (z < lines.now.boards) }
     ensures { VisitedOf rules6 lines.now (λ ks. FedEach lines.now.boards lines.now.words.now numbers z) cells.old marks.old cells.new marks.new result }
 {
+    // A copy, so that the compiler need not look anew, after each strike, at what no strike changes.
+    let copied = *lines;
     let mut left = numbers;
     while let Some(n) = left.pop() {
-        rule6_at(lines.boards, lines.words, lines.line(n), z, cells, marks)?;
+        rule6_at(copied.boards, copied.words, copied.line(n), z, cells, marks)?;
     }
     Ok(())
 }

@@ -24,8 +24,8 @@ fn ways_match(v: usize, ways: &[u16], others: &[u16], cells: &[RelationSet]) -> 
     requires { Ready v cells.now × Facing v ways.now others.now }
     ensures { result ≡ paired v cells.now ways.now others.now }
 {
-    for (&way, &other) in ways.iter().zip(others) {
-        if (cell(v, usize::from(way), usize::from(other), cells) & RelationSet::E).is_empty() {
+    for (i, &way) in ways.iter().enumerate() {
+        if (cell(v, usize::from(way), usize::from(others[i]), cells) & RelationSet::E).is_empty() {
             return false;
         }
     }
@@ -44,9 +44,9 @@ fn match_ways(
     requires { Mutual v cells.old × Marks v marks.old × Facing v ways.now others.now }
     ensures { Went (Idles v (joined v ways.now others.now)) v (λ n w. Joined v ways.now others.now w) cells.old marks.old cells.new marks.new result }
 {
-    for (&way, &other) in ways.iter().zip(others) {
+    for (i, &way) in ways.iter().enumerate() {
         let p = usize::from(way);
-        let q = usize::from(other);
+        let q = usize::from(others[i]);
         strike(v, p, q, RelationSet::E, cells, marks)?;
     }
     Ok(())
@@ -111,9 +111,11 @@ fn rule7_each(
     requires { SiteOf lines.now cells.old marks.old × Numbers lines.now.count numbers × Numbers lines.now.count others }
     ensures { VisitedOf rules7 lines.now (λ ks. Each lines.now.boards lines.now.words.now numbers others) cells.old marks.old cells.new marks.new result }
 {
+    // A copy, so that the compiler need not look anew, after each strike, at what no strike changes.
+    let copied = *lines;
     let mut left = numbers;
     while let Some(n) = left.pop() {
-        rule7_beside(lines, n, others, cells, marks)?;
+        rule7_beside(&copied, n, others, cells, marks)?;
     }
     Ok(())
 }

@@ -8,7 +8,7 @@ use Rattle.rules.specs.Descriptions.{most_boards, most_ways}
 use Rattle.bits.specs.Sets.{added_at}
 use Rattle.by_board.specs.declared.Index.TheInside.{Inside}
 use Rattle.by_board.specs.Found.{places_at, Indexed}
-use Rattle.by_board.proofs.Placing.{Turn, line_there, line_stands, line_next, line_panel, line_board, line_way, line_told}
+use Rattle.by_board.proofs.Placing.{Turn, line_there, line_early, line_stands, line_next, line_panel, line_board, line_way, line_told}
 use Rattle.by_board.proofs.Laying.{laid_panel, laid_way, laid_place, laid_start}
 use Rattle.by_board.proofs.Index.put_line.Goals as goal
 
@@ -85,3 +85,6 @@ returns c =
     let met = c.kind_at-line.ensures in
     let (sized, turn) = c.loop-i.invariant in
     (line_next begins met, subst (Indexed (c.args.n + 1) c.args.words.now) (laid_start c.loop-i.self-inside sized c.args.n c.args.at) (line_told begins met turn c.loop-i-test.false))
+
+pub overflow_cast-self : goal.overflow_cast-self
+overflow_cast-self c = record { fits = omega (arith, line_early c.requires.0) }

@@ -1,0 +1,2 @@
+-- What the table of compositions holds.
+pub mod Composing

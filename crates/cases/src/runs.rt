@@ -25,13 +25,6 @@ fn fill<R: Read>(input: &mut R, room: &mut [u8]) -> Result<(), End> {
     input.read_exact(room).map_err(|_| End::Input)
 }
 
-// The next number of the input.
-fn number<R: Read>(input: &mut R) -> Result<u32, End> {
-    let mut bytes = [0; 4];
-    fill(input, &mut bytes)?;
-    Ok(u32::from_le_bytes(bytes))
-}
-
 // So much of a room, if it has so much.
 fn part<T>(room: &mut [T], size: usize) -> Result<&mut [T], End>
     ensures { IfOk result (λ part. length part.now ≡ size) }
@@ -61,13 +54,16 @@ pub(crate) struct Run<'a, R: Read, W: Write> {
 }
 
 impl<R: Read, W: Write> Run<'_, R, W> {
-    // The numbers that the next case begins with.
+    // The numbers that the next case begins with, read at once, since a reader that keeps no bytes back asks the system for each read.
     fn front(&mut self) -> Result<Front, End> {
+        let mut bytes = [0; 16];
+        fill(&mut self.input, &mut bytes)?;
+        let [a, b, c, d, e, f, g, h, i, j, k, l, m, n, o, p] = bytes;
         Ok(Front {
-            call: Call::from(number(&mut self.input)?),
-            number: number(&mut self.input)?,
-            words: number(&mut self.input)?,
-            cells: number(&mut self.input)?,
+            call: Call::from(u32::from_le_bytes([a, b, c, d])),
+            number: u32::from_le_bytes([e, f, g, h]),
+            words: u32::from_le_bytes([i, j, k, l]),
+            cells: u32::from_le_bytes([m, n, o, p]),
         })
     }
 

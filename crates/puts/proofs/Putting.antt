@@ -1,12 +1,11 @@
 -- What is put into a text piece by piece is put as a whole. Assumes nothing.
 use mathlib.Core.Path.{◌≡◌, refl, sym, ap, ap₂, ◌∙◌, subst}
-use mathlib.Core.List.{List, [], ◌∷◌, ◌++◌, append_assoc}
-use Prim.Native.Nat.{ℕ, suc, ◌+◌, ◌≤◌, ◌<◌}
+use mathlib.Core.List.{List, [], ◌∷◌, ◌++◌}
+use Prim.Native.Nat.{ℕ, suc, ◌+◌, ◌<◌}
 use native.Mathlib.Numerals.{add-one}
 use native.Mathlib.Omega.{arith}
-use lib.ListN.{length, get_or, take, drop, set, length-append}
-use lib.Seq.{sets, sets-eq, length-sets, length-take-le, take-suc, drop-drop}
-use borrow.Rule.Slice.PartMut.{put_mid}
+use lib.ListN.{length, get_or, take, set, length-append}
+use lib.Seq.{sets, length-sets, length-take-le, take-suc}
 use Rattle.puts.specs.declared.Writer.{Writer}
 use Rattle.puts.specs.Texts.{HasRoom, placed, Put, told}
 
@@ -38,13 +37,6 @@ bytes_more t at bs i h =
     let l : length (take i bs) ≡ i = length-take-le i bs (omega arith) in
     ap (λ (k : ℕ). set (sets t at (take i bs)) (at + k) (get_or bs i 0)) (sym l) ∙ sets_append (take i bs) (get_or bs i 0 ∷ []) t at
     ∙ ap (sets t at) (sym (take-suc bs i 0 h)) ∙ ap (λ (k : ℕ). sets t at (take k bs)) (sym (add-one i))
-
--- some bytes in the place of as many others are put there
-pub put_part : (t : List ℕ) (at n : ℕ) (bs us : List ℕ) → at + length bs ≤ length t → n ≡ length bs → us ≡ bs → put_mid at n t us ≡ placed t at bs
-unfolding placed
-put_part t at n bs us room e d =
-    let f : put_mid at n t us ≡ put_mid at (length bs) t bs = ap (λ (k : ℕ). put_mid at k t us) e ∙ ap (put_mid at (length bs) t) d in
-    f ∙ rw (drop-drop (length bs) at t) (sym (append_assoc (take at t) bs (drop (at + length bs) t)) ∙ sym (sets-eq bs t at room))
 
 pub put_none : (w : Writer) → Put w [] w
 put_none w = record { text = sym (placed_none w.text.now w.at); next = omega arith; same = refl }

@@ -13,8 +13,7 @@ fn last_digit(n: usize) -> u8
 }
 
 // Puts some bytes into a text from a place on.
-// Stays: a loop over the bytes, since pieces are a few bytes long, and the slice's own method tests of each whether it lies in the text; a writer's calls took
-// two fifths more instructions by it.
+// Stays: a loop over the bytes, since pieces are a few bytes long, and the slice's own method tests of each whether it lies in the text, which is slower.
 fn put_bytes(text: &mut [u8], at: usize, bytes: &[u8])
     requires { at + length bytes.now ≤ length text.old }
     ensures { text.new ≡ placed text.old at bytes.now }
@@ -22,6 +21,22 @@ fn put_bytes(text: &mut [u8], at: usize, bytes: &[u8])
     for (i, &byte) in bytes.iter().enumerate() {
         text[at + i] = byte;
     }
+}
+
+// Puts a number in decimal into a text from a place on, and answers the place after it.
+// Stays: the place goes from call to call, since one in a lent writer is stored and read again for each digit, which is slower.
+fn put_digits(text: &mut [u8], at: usize, n: usize) -> usize
+    requires { at + length (decimal n) ≤ length text.old }
+    ensures put { text.new ≡ placed text.old at (decimal n) }
+    ensures after { result ≡ at + length (decimal n) }
+{
+    if n < 10 {
+        text[at] = last_digit(n);
+        return at + 1;
+    }
+    let last = put_digits(text, at, n / 10);
+    text[last] = last_digit(n);
+    last + 1
 }
 
 // A text that is lent, and the place where the next byte is put.
@@ -75,9 +90,7 @@ impl<'a> Writer<'a> {
         requires { HasRoom self.old (decimal n) }
         ensures { Put self.old (decimal n) self.new }
     {
-        if 10 <= n {
-            self.put_number(n / 10);
-        }
-        self.put_byte(last_digit(n));
+        let at = self.at;
+        self.at = put_digits(self.text, at, n);
     }
 }

@@ -128,6 +128,8 @@ fn run_length(bytes: &[u8]) -> usize
 }
 
 // The first symbol of a line from a place on, and the place after it.
+// Inlined, since what a call answers goes through memory, which makes each symbol slower.
+#[inline(always)]
 pub fn symbol_at(line: &[u8], at: usize) -> Token
     requires { at ≤ length line.now }
     ensures { result ≡ token line.now at }

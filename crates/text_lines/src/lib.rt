@@ -1,7 +1,7 @@
 // The lines of a typed sheet, one after the other: their words are gathered by their sorts.
 #![tactic(auto)]
 
-ghost use Rattle.std.specs.Prelude.{◌≡◌, ◌+◌, ◌≤◌, ◌<◌, length, replicate};
+ghost use Rattle.std.specs.Prelude.{◌≡◌, ◌+◌, ◌≤◌, ◌<◌, nat_eq, length, replicate, position};
 ghost use Rattle.rules.specs.Descriptions.{most_words};
 ghost use Rattle.typed.specs.Symbols.{symbols};
 ghost use Rattle.typed.specs.Grammar.{lines_of};
@@ -84,11 +84,20 @@ pub fn kinds_room() -> [u16; KINDS_ROOM]
     [0; KINDS_ROOM]
 }
 
+// Where the first line of a text ends, if a line feed ends it.
+// A function apart: put into its callers it is a longer loop, which takes up to twice as long.
+#[inline(never)]
+fn line_end(text: &[u8]) -> Option<usize>
+    ensures { result ≡ position (λ b. nat_eq b 10) text.now }
+{
+    text.iter().position(|&byte| byte == b'\n')
+}
+
 // The first line of a text, and the text after it.
 fn split_line(text: &[u8]) -> (&[u8], &[u8])
     ensures { Splits text.now result.0.now result.1.now }
 {
-    match text.iter().position(|&byte| byte == b'\n') {
+    match line_end(text) {
         Some(end) => (&text[..end], &text[end + 1..]),
         None => (text, &[]),
     }
@@ -122,6 +131,8 @@ fn open_line(line: &[u8]) -> Option<u16>
 
 // Takes a line after the first, unless it is malformed: its words go to those of its sort, from a place on.
 // Stays: the lent words and the place in them are apart, since what is gathered has the places alone.
+// A function apart: put into its caller, its loops over the bytes of a line lie anywhere in memory, and take up to twice as long.
+#[inline(never)]
 fn take_line(
     line: &[u8],
     words: &mut [u16],

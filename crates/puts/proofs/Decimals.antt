@@ -47,46 +47,27 @@ decimal_more n h =
     let r = tenth_less n h in
     digits_more n n h ∙ ap (λ (ds : List ℕ). ds ++ (last_digit n ∷ [])) (digits_enough n (suc (n / 10)) (n / 10) (omega arith) (omega arith))
 
--- the digits before the last one
-unfoldable pub tens : ℕ → List ℕ
-tens n = elim (ltb n 10) [ true ↦ [] | false ↦ decimal (n / 10) ]
-
-abbrev by_one : ℕ → Bool → List ℕ
-by_one n b = elim b [ true ↦ [] | false ↦ decimal (n / 10) ]
-
-pub tens_one : (n : ℕ) → n < 10 → tens n ≡ []
-unfolding tens
-tens_one n h = ap (by_one n) (lt-ltb n 10 h)
-
-pub tens_more : (n : ℕ) → 10 ≤ n → tens n ≡ decimal (n / 10)
-unfolding tens
-tens_more n h = ap (by_one n) (le-ltb n 10 h)
-
-pub decimal_last : (n : ℕ) → decimal n ≡ tens n ++ (last_digit n ∷ [])
-decimal_last n = go (ltb n 10) refl
-  where
-    go : (b : Bool) → ltb n 10 ≡ b → decimal n ≡ tens n ++ (last_digit n ∷ [])
-    go true e = let h = ltb-true n 10 e in rw (tens_one n h) (decimal_one n h)
-    go false e = let h = ltb-false n 10 e in rw (tens_more n h) (decimal_more n h)
-
 -- ---- how many digits there are
+
+pub decimal_length_one : (n : ℕ) → n < 10 → length (decimal n) ≡ 1
+decimal_length_one n h = ap length (decimal_one n h)
+
+pub decimal_length_more : (n : ℕ) → 10 ≤ n → length (decimal n) ≡ length (decimal (n / 10)) + 1
+decimal_length_more n h = ap length (decimal_more n h) ∙ length-append (decimal (n / 10)) (last_digit n ∷ [])
 
 -- each number below m has at most k digits
 abbrev Short : ℕ → ℕ → Type 0
 Short m k = (n : ℕ) → n < m → length (decimal n) ≤ k
 
 short_one : Short 10 1
-short_one n h = omega (arith, ap length (decimal_one n h))
+short_one n h = omega (arith, decimal_length_one n h)
 
 short_more : (m k : ℕ) → 1 ≤ k → Short m k → Short (10 * m) (suc k)
 short_more m k l f n h = go (ltb n 10) refl
   where
     go : (b : Bool) → ltb n 10 ≡ b → length (decimal n) ≤ suc k
     go true e = omega (arith, short_one n (ltb-true n 10 e))
-    go false e =
-        let d : length (decimal n) ≡ length (decimal (n / 10)) + 1 =
-        ap length (decimal_more n (ltb-false n 10 e)) ∙ length-append (decimal (n / 10)) (last_digit n ∷ []) in
-        omega (arith, f (n / 10) (omega arith))
+    go false e = omega (arith, f (n / 10) (omega arith), decimal_length_more n (ltb-false n 10 e))
 
 pub decimal_two : Short 100 2
 decimal_two = short_more 10 1 (omega arith) short_one

@@ -90,7 +90,6 @@ impl<'a> Writer<'a> {
         requires { HasRoom self.old (decimal n) }
         ensures { Put self.old (decimal n) self.new }
     {
-        let at = self.at;
-        self.at = put_digits(self.text, at, n);
+        self.at = put_digits(self.text, self.at, n);
     }
 }

@@ -36,7 +36,7 @@ lines_front (b ∷ c ∷ bs) (suc n) s h f g =
     lines_front (c ∷ bs) n (omega arith) (omega arith) (λ i l. f (suc i) (omega arith)) (λ l. g (omega arith)) in
     rw (ne_eqb b line_feed (f 0 (omega arith)), lines_of, e)
 
--- the place of the first line feed, if there is one
+-- whether a byte is a line feed
 abbrev pub is_feed : ℕ → Bool
 is_feed b = eqb b line_feed
 
